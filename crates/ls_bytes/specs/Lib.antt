@@ -1,2 +1,4 @@
 pub mod Fields
+pub mod Joined
 pub mod Names
+pub mod Reading
