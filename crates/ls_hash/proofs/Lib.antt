@@ -1,0 +1,2 @@
+pub mod Pbkdf2Lemmas
+mod StandardFacts
