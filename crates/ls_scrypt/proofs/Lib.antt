@@ -1,0 +1,4 @@
+mod LaneLemmas
+mod MixingLemmas
+mod StandardFacts
+mod WordLemmas

@@ -1,0 +1,5 @@
+pub mod BlockMix
+pub mod Diagonals
+pub mod RoMix
+pub mod Salsa
+pub mod Scrypt
