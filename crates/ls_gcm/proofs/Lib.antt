@@ -1,0 +1,9 @@
+mod ByteTables
+mod CounterLemmas
+mod ElementLemmas
+mod ExpansionLemmas
+mod HashLemmas
+mod ProductLemmas
+mod RoundLemmas
+pub mod SealingLemmas
+pub mod StandardFacts

@@ -1,0 +1,4 @@
+pub mod Aes
+pub mod Blocks
+pub mod Byte
+pub mod Gcm
