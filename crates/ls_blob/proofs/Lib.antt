@@ -1,0 +1,2 @@
+mod ParsingLemmas
+pub mod PersonalLemmas

@@ -1,0 +1,5 @@
+pub mod Blobs
+pub mod Kinds
+pub mod Parsing
+pub mod Personal
+pub mod Views

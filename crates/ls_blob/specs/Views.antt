@@ -1,0 +1,7 @@
+-- What a contract sees of a blob in the code.
+use Rattle.ls_blob.specs.declared.sp_blob.SpBlob.{SpBlob}
+use Rattle.ls_blob.specs.Blobs.{Blob}
+
+-- its fields
+abbrev pub blob_of : SpBlob → Blob
+blob_of b = record { version = b.version; kind = b.kind; content = b.content }

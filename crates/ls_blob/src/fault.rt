@@ -1,0 +1,28 @@
+//! Why bytes are no blob.
+ghost use Rattle.std.specs.Prelude.{◌≡◌};
+ghost use Rattle.ls_blob.specs.declared.fault.BlobFault.TheVariants as fault;
+
+use ls_bytes::Memory;
+
+/// Why bytes are no blob. Places are counted from 0.
+#[derive(Clone, Copy, Debug, PartialEq, Eq)]
+pub enum BlobFault {
+    /// The bytes end at this place, before the blob does.
+    Short { at: u32 },
+    /// The first byte is this, and no version that is read.
+    Version(u8),
+    /// The second byte is this, and no kind that is read.
+    Kind(u8),
+    /// The byte at this place is the first behind the blob.
+    Extra { at: u32 },
+    /// There was no memory for the content.
+    Memory,
+}
+
+impl From<Memory> for BlobFault {
+    ghost from_gives = { λ _ e. e ≡ fault.Memory };
+
+    fn from(_error: Memory) -> BlobFault {
+        BlobFault::Memory
+    }
+}

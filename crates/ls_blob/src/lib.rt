@@ -1,0 +1,15 @@
+//! Texts sealed under a key and a personalisation, and the file of a sealed synthetic password.
+#![tactic(auto)]
+
+mod fault;
+mod kind;
+mod parsing;
+mod personal;
+mod sp_blob;
+#[cfg(test)]
+mod tests;
+
+pub use fault::BlobFault;
+pub use kind::BlobKind;
+pub use personal::{open_under, seal_under, sealed_texts_open};
+pub use sp_blob::SpBlob;
