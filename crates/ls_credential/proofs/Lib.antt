@@ -1,0 +1,3 @@
+mod ClassLemmas
+pub mod RuleLemmas
+mod StretchLemmas

@@ -1,0 +1,4 @@
+pub mod Codes
+pub mod Rules
+pub mod Stretches
+pub mod Counts
