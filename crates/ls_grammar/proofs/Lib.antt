@@ -1,0 +1,12 @@
+pub mod SharedLemmas
+pub mod SequenceLemmas
+pub mod FurthestLemmas
+pub mod EitherLemmas
+pub mod NumberLemmas
+pub mod HexTextLemmas
+pub mod CredentialLemmas
+pub mod LineLemmas
+pub mod UnionLemmas
+pub mod GrammarTest
+pub mod AnswerLemmas
+pub mod LongestPrefixLemmas
