@@ -1,0 +1,3 @@
+mod PutLemmas
+mod ReadingLemmas
+pub mod ScriptGrammar

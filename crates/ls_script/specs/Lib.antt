@@ -1,0 +1,7 @@
+pub mod Activation
+pub mod Grammar
+pub mod LineWords
+pub mod RowAnswers
+pub mod Commands
+pub mod ReplyText
+pub mod ScriptReading

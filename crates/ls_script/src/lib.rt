@@ -1,0 +1,21 @@
+//! The lines of a script: how they are read, which commands each stands for, and how replies are
+//! printed.
+#![tactic(auto)]
+
+mod command;
+mod details;
+mod print;
+mod read;
+mod reply;
+mod script_line;
+#[cfg(test)]
+mod tests;
+mod verb;
+mod words;
+
+pub use command::{Command, CommandList};
+pub use ls_grammar::LineFault;
+pub use print::{print_fault, print_reply};
+pub use read::line;
+pub use reply::{Refusal, Reply, Revealed, RevealedList, StatusRow, TokenState};
+pub use script_line::ScriptLine;
