@@ -1,0 +1,56 @@
+-- How the definitions of one action hang together.
+use Rattle.std.proofs.Common.{◌≡◌, ◌⊎◌, inl, inr, ℕ, true, false, List, [], ◌∷◌, ◌++◌, length, Option, None, Some, refl, sym, ◌∙◌, ap, subst, arith}
+use Rattle.std.specs.Prelude.{Result, Ok, Err}
+use Rattle.std.specs.FinMap.Entries.{where_key}
+use Rattle.std.proofs.lemmas.List.{take_all}
+use Rattle.ls_board.specs.declared.action.Action.{Action}
+use Rattle.ls_board.specs.declared.action.Action.TheVariants.{Read, Put, Sync, Hear, Say}
+use Rattle.ls_board.specs.declared.action.Answer.{Answer}
+use Rattle.ls_board.specs.declared.action.BoardFault.{BoardFault}
+use Rattle.ls_board.specs.declared.action.BoardFault.TheVariants.{Failed, Memory}
+use Rattle.ls_board.specs.declared.touch.Touch.{Touch}
+use Rattle.ls_board.specs.declared.touch.Touch.TheVariants.{Poked, Made, Other}
+use Rattle.ls_board.specs.declared.touch.Span.{Span}
+use Rattle.ls_board.specs.declared.world.World.{World}
+use Rattle.ls_board.specs.Order.{byte_cmp}
+use Rattle.ls_board.specs.Effect.{Mark, after, Answers, marked}
+use Rattle.ls_board.specs.Images.{PokedFrom, MayHold, Within, MarkWithin}
+use Rattle.ls_board.specs.Acts.{Sight, Moves}
+
+pub poked_same : (spans : List Span) (now : Option (List ℕ)) → PokedFrom spans now now
+poked_same spans None = tt
+poked_same spans (Some now) = record { long = refl; kept = λ i out. refl }
+
+-- a file may be left as it reads
+pub holds_same : (touch : Option Touch) (now : Option (List ℕ)) → MayHold touch now now
+holds_same None now = refl
+holds_same (Some (Poked spans)) now = poked_same spans now
+holds_same (Some (Made before)) now = inl refl
+holds_same (Some Other) now = tt
+
+pub where_all : {X : Type 0} (rows : List (List ℕ × X)) → where_key byte_cmp (λ n. true) rows ≡ rows
+where_all [] = refl
+where_all {X = X} (r ∷ rows) = ap (λ (rest : List (List ℕ × X)). r ∷ rest) (where_all rows)
+
+pub where_none : {X : Type 0} (rows : List (List ℕ × X)) → where_key byte_cmp (λ n. false) rows ≡ []
+where_none [] = refl
+where_none (r ∷ rows) = where_none rows
+
+pub whole_mark : (w : World) (m : Mark) → MarkWithin w m (marked w m)
+whole_mark w m = record { content = m.content; holds = holds_same (Some m.own) m.content; is = refl }
+
+-- a whole action is one that had some of its effect
+pub done_within : (w : World) (a : Action) (answer : Answer) (out : List ℕ) → Answers w a answer out → Within w a (after w a (length out))
+done_within w (Read n) answer out answers = refl
+done_within w (Put n bytes) answer out answers = whole_mark w _
+done_within w Sync answer out answers = record { still = λ n. false; is = ap (λ (rows : List (List ℕ × Touch)). record w { touched = rows }) (sym (where_none w.touched)) }
+done_within w (Hear max) answer out (inl ended) = record { taken = length out; few = omega (arith, ap length ended.2); is = refl }
+done_within w (Hear max) answer out (inr heard) = record { taken = length out; few = heard.2; is = refl }
+done_within w (Say bytes) answer out answers =
+    record { told = length bytes; is = ap (λ (said : List ℕ). record w { said = w.said ++ said }) (sym (take_all (length bytes) bytes (omega arith))) }
+
+-- however a call ended, the world is within the action, or as it was
+pub stays : (old : Sight) (a : Action) (result : Result Answer BoardFault) (out : List ℕ) (new : Sight) → Moves old a result out new → Within old.world a new.world ⊎ (new.world ≡ old.world)
+stays old a (Ok answer) out new m = inl (subst (Within old.world a) (sym m.done.1) (done_within old.world a answer out m.done.0))
+stays old a (Err (Failed p)) out new m = inl (m.failed p refl)
+stays old a (Err Memory) out new m = inr (m.lacking refl)

@@ -1,0 +1,4 @@
+pub mod Acts
+pub mod Effect
+pub mod Images
+pub mod Order
