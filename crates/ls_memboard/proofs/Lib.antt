@@ -1,0 +1,4 @@
+mod CallLemmas
+mod RebuildLemmas
+mod ReplayLemmas
+mod StepLemmas
