@@ -1,0 +1,10 @@
+mod FileLemmas
+mod HearingLemmas
+mod LineLemmas
+mod NumberLemmas
+mod OpeningLemmas
+mod RepliesLemmas
+mod RunLemmas
+mod ScriptLemmas
+mod ServingLemmas
+mod VaultLemmas

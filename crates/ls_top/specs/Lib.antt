@@ -1,0 +1,12 @@
+pub mod Ending
+pub mod FoundUsers
+pub mod Lines
+pub mod Opening
+pub mod Printed
+pub mod RunEnds
+pub mod Runs
+pub mod Script
+pub mod Serving
+pub mod UsersFile
+pub mod Vault
+pub mod Words
