@@ -9,7 +9,7 @@ use crate::mac::Mac;
 #[tactic(auto, unfolding(crate::specs::Derivation::kdf_counter))]
 pub fn sp800(key: &[u8], label: &[u8], context: &[u8]) -> [u8; 32]
     requires { length context.now < 2 ^ 28 }
-    ensures { result ≡ kdf_counter key.now label.now context.now }
+    ensures key { result ≡ kdf_counter key.now label.now context.now }
 {
     let context_bits = 8 * context.len() as u32;
     let mut mac = Mac::new(key);

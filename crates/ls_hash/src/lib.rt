@@ -9,7 +9,7 @@ mod pbkdf2;
 mod personal;
 
 pub use derivation::sp800;
-pub use mac::hmac256;
+pub use mac::{hmac256, hmac256_joined};
 pub use pbkdf2::{pbkdf2_fill, pbkdf2_once};
 pub use personal::{phash, phash2};
 

@@ -13,10 +13,20 @@ const OUTER_PAD: u8 = 0x5c;
 
 /// HMAC-SHA256 of a message under a key, both of any length (FIPS 198-1, section 4).
 pub fn hmac256(key: &[u8], message: &[u8]) -> [u8; 32]
-    ensures { result ≡ hmac_sha256 key.now message.now }
+    ensures mac { result ≡ hmac_sha256 key.now message.now }
 {
     let mut mac = Mac::new(key);
     mac.update(message);
+    mac.finalize()
+}
+
+/// HMAC-SHA256 of a message in two pieces, joined (FIPS 198-1, section 4).
+pub fn hmac256_joined(key: &[u8], front: &[u8], back: &[u8]) -> [u8; 32]
+    ensures mac { result ≡ hmac_sha256 key.now (front.now ++ back.now) }
+{
+    let mut mac = Mac::new(key);
+    mac.update(front);
+    mac.update(back);
     mac.finalize()
 }
 

@@ -20,7 +20,7 @@ fn pbkdf2_block(password: &[u8], salt: &[u8], number: u32) -> [u8; 32]
 /// Fills `out`, of fewer than 2^31 bytes, with the key that a password and a salt give.
 pub fn pbkdf2_fill(password: &[u8], salt: &[u8], out: &mut [u8])
     requires { length out.old < 2 ^ 31 }
-    ensures { out.new ≡ pbkdf2_one password.now salt.now (length out.old) }
+    ensures filled { out.new ≡ pbkdf2_one password.now salt.now (length out.old) }
 {
     let whole = out.len() / 32;
     'whole_blocks: for i in 0..whole {
@@ -43,7 +43,7 @@ fn zeros(alloc: Global, len: usize) -> Result<Vec<u8>, AllocError>
 /// The key of `len` bytes, 1 to 16,384, that a password and a salt give.
 pub fn pbkdf2_once(alloc: Global, password: &[u8], salt: &[u8], len: u32) -> Result<Bytes, Memory>
     requires { (1 ≤ len) × (len ≤ 16384) }
-    ensures { IfOk result (λ key. key ≡ pbkdf2_one password.now salt.now len) }
+    ensures key { IfOk result (λ key. key ≡ pbkdf2_one password.now salt.now len) }
 {
     let mut key = zeros(alloc, len as usize)?;
     pbkdf2_fill(password, salt, &mut key);

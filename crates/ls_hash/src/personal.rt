@@ -11,7 +11,7 @@ use sha2::{Digest, Sha512};
 #[tactic(auto, unfolding(crate::specs::Personal::personalised_hash))]
 pub fn phash(personal: &[u8], m: &[u8]) -> [u8; 64]
     requires { length personal.now ≤ 128 }
-    ensures { result ≡ personalised_hash personal.now m.now }
+    ensures digest { result ≡ personalised_hash personal.now m.now }
 {
     let mut hasher = personalised(personal);
     hasher.update(m);
@@ -22,7 +22,7 @@ pub fn phash(personal: &[u8], m: &[u8]) -> [u8; 64]
 #[tactic(auto, unfolding(crate::specs::Personal::personalised_hash))]
 pub fn phash2(personal: &[u8], m1: &[u8], m2: &[u8]) -> [u8; 64]
     requires { length personal.now ≤ 128 }
-    ensures { result ≡ personalised_hash personal.now (m1.now ++ m2.now) }
+    ensures digest { result ≡ personalised_hash personal.now (m1.now ++ m2.now) }
 {
     let mut hasher = personalised(personal);
     hasher.update(m1);

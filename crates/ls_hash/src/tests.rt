@@ -54,6 +54,11 @@ fn hmac256_of_short_and_long_keys(rt: HostRuntime) -> Result<(), Fail> {
             has_text(rt.alloc(), &hmac256(&key, &message), mac)?,
             "{mac}"
         );
+        let (front, back) = message.split_at(message.len() / 2);
+        assert!(rt;
+            has_text(rt.alloc(), &hmac256_joined(&key, front, back), mac)?,
+            "{mac} in two pieces"
+        );
     }
     Ok(())
 }

@@ -24,7 +24,7 @@ pub fn stretch(alloc: Global, password: &[u8], salt: &[u8], cost: Cost) -> Resul
     requires log_n { (1 ≤ cost.log_n) × (cost.log_n ≤ 14) }
     requires log_r { cost.log_r ≤ 4 }
     requires log_p { cost.log_p ≤ 3 }
-    ensures { IfOk result (λ key. key
+    ensures key { IfOk result (λ key. key
         ≡ scrypt password.now salt.now (2 ^ cost.log_n) (2 ^ cost.log_r) (2 ^ cost.log_p)) }
 {
     let n = power(cost.log_n);

@@ -6,8 +6,8 @@ use std::simd::u8x32;
 
 /// `to` becomes `to` xor `from`, byte by byte. Both have the same length.
 pub fn xor_into(to: &mut [u8], from: &[u8])
-    requires { length to.old ≡ length from.now }
-    ensures { to.new ≡ xor to.old from.now }
+    requires lengths { length to.old ≡ length from.now }
+    ensures xored { to.new ≡ xor to.old from.now }
 {
     let whole = to.len() / 32;
     'vectors: for i in 0..whole {

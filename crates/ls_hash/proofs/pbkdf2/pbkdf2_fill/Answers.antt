@@ -22,12 +22,16 @@ returns-then-rest-gt0 c =
     let m : ℕ = length c.args.out.now in
     let e : c.whole_blocks.i ≡ m / 32 = omega arith in
     let held = rw e at c.whole_blocks.invariant.front in
-    filled_cut c.args.password.now c.args.salt.now c.whole_blocks.out c.pbkdf2_block-last.result _ (m / 32)
-    (length c.whole_blocks.out - 32 * (m / 32)) m (omega arith) held (omega arith) (omega arith) (omega arith)
-    (c.copy_from_slice-then-rest-gt0.ensures.after ∙ ap (λ (k : ℕ). take k c.pbkdf2_block-last.result) (omega arith))
-    (omega arith) c.pbkdf2_block-last.ensures
+    record {
+      filled = filled_cut c.args.password.now c.args.salt.now c.whole_blocks.out c.pbkdf2_block-last.result _ (m / 32)
+          (length c.whole_blocks.out - 32 * (m / 32)) m (omega arith) held (omega arith) (omega arith) (omega arith)
+          (c.copy_from_slice-then-rest-gt0.ensures.after ∙ ap (λ (k : ℕ). take k c.pbkdf2_block-last.result) (omega arith))
+          (omega arith) c.pbkdf2_block-last.ensures;
+    }
 
 pub returns-else-rest-gt0 : goal.returns-else-rest-gt0
 returns-else-rest-gt0 c =
-    filled_whole c.args.password.now c.args.salt.now c.whole_blocks.out c.whole_blocks.i (length c.args.out.now)
-    (omega arith) c.whole_blocks.invariant.front (omega arith)
+    record {
+      filled = filled_whole c.args.password.now c.args.salt.now c.whole_blocks.out c.whole_blocks.i (length c.args.out.now)
+          (omega arith) c.whole_blocks.invariant.front (omega arith);
+    }

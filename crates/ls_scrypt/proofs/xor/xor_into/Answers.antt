@@ -17,4 +17,4 @@ rest-preserved c =
 
 pub returns : goal.returns
 returns c =
-    c.rest.invariant ∙ joined_all bit_xor c.args.to.now c.args.from.now c.rest.i (omega arith) (omega arith)
+    record { xored = c.rest.invariant ∙ joined_all bit_xor c.args.to.now c.args.from.now c.rest.i (omega arith) (omega arith) }
