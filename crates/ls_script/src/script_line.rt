@@ -127,43 +127,21 @@ impl ScriptLine {
         match self {
             ScriptLine::UserAdd { user, escrow } => one(alloc, Command::Add { user, escrow }),
             ScriptLine::UserDrop { user } => one(alloc, Command::Drop { user }),
-            ScriptLine::Unlock { user, credential } => {
-                two(
-                    alloc,
-                    Command::Attempt { user, credential },
-                    Command::Activate { user },
-                )
-            }
-            ScriptLine::Change { user, old, new } => {
-                change(
-                    alloc,
-                    Command::Attempt {
-                        user,
-                        credential: old,
-                    },
-                    user,
-                    new,
-                )
-            }
+            ScriptLine::Unlock { user, credential } => unlock(alloc, user, credential),
+            ScriptLine::Change { user, old, new } => change(alloc, user, old, new),
             ScriptLine::Lock { user } => one(alloc, Command::Lock { user }),
             ScriptLine::Status { user } => one(alloc, Command::Status { user }),
             ScriptLine::Users => one(alloc, Command::Users),
             ScriptLine::TokenAdd { user, token } => token_add(alloc, user, token, standing),
             ScriptLine::TokenDrop { user, id } => one(alloc, Command::TokenDrop { user, id }),
             ScriptLine::TokenState { user, id } => one(alloc, Command::TokenState { user, id }),
-            ScriptLine::UnlockToken { user, id, token } => {
-                two(
-                    alloc,
-                    Command::TokenAttempt { user, id, token },
-                    Command::Activate { user },
-                )
-            }
+            ScriptLine::UnlockToken { user, id, token } => unlock_token(alloc, user, id, token),
             ScriptLine::ChangeToken {
                 user,
                 id,
                 token,
                 new,
-            } => { change(alloc, Command::TokenAttempt { user, id, token }, user, new) }
+            } => change_token(alloc, user, id, token, new),
             ScriptLine::EscrowOff { user } => one(alloc, Command::EscrowOff { user }),
             ScriptLine::ResumePrepare => one(alloc, Command::Prepare),
             ScriptLine::ResumeArm => one(alloc, Command::Arm),
@@ -190,8 +168,58 @@ fn two(alloc: Global, first: Command, second: Command) -> Result<CommandList, Me
     Ok(list)
 }
 
+/// The user is opened by its credential, and its tokens are activated.
+fn unlock(alloc: Global, user: u32, credential: Credential) -> Result<CommandList, Memory>
+    ensures list { IfOk result (λ list.
+        list ≡ command.Attempt user credential ∷ command.Activate user ∷ []) }
+{
+    two(
+        alloc,
+        Command::Attempt { user, credential },
+        Command::Activate { user },
+    )
+}
+
+/// The user is opened by a token, and its tokens are activated.
+fn unlock_token(alloc: Global, user: u32, id: u64, token: Bytes) -> Result<CommandList, Memory>
+    ensures list { IfOk result (λ list.
+        list ≡ command.TokenAttempt user id token ∷ command.Activate user ∷ []) }
+{
+    two(
+        alloc,
+        Command::TokenAttempt { user, id, token },
+        Command::Activate { user },
+    )
+}
+
+/// The user is opened by its credential, and gets another one.
+fn change(alloc: Global, user: u32, old: Credential, new: Credential) -> Result<CommandList, Memory>
+    ensures list { IfOk result (λ list. list ≡ command.Attempt user old
+        ∷ command.Change user new ∷ command.Activate user ∷ []) }
+{
+    let attempt = Command::Attempt {
+        user,
+        credential: old,
+    };
+    replace(alloc, attempt, user, new)
+}
+
+/// The user is opened by a token, and gets another credential.
+fn change_token(
+    alloc: Global,
+    user: u32,
+    id: u64,
+    token: Bytes,
+    new: Credential,
+) -> Result<CommandList, Memory>
+    ensures list { IfOk result (λ list. list ≡ command.TokenAttempt user id token
+        ∷ command.Change user new ∷ command.Activate user ∷ []) }
+{
+    replace(alloc, Command::TokenAttempt { user, id, token }, user, new)
+}
+
 /// The user is opened, gets another credential, and its tokens are activated.
-fn change(
+fn replace(
     alloc: Global,
     first: Command,
     user: u32,
