@@ -1,0 +1,6 @@
+mod FreshLemmas
+mod InsertLemmas
+mod NoiseLemmas
+mod PendingLemmas
+pub mod ScriptLemmas
+mod UserLemmas

@@ -1,0 +1,31 @@
+//! What outlives a session: the users, an arming, and what the settings keep of these.
+
+use crate::table::Table;
+use crate::user::User;
+
+/// The users whose secrets are kept over a restart, and the boot at which they were armed.
+#[derive(Drop)]
+pub struct Arming {
+    /// The boot of the session that armed.
+    pub boot: u32,
+    /// The numbers of the users, ascending.
+    pub users: Table<u32>,
+}
+
+/// What is kept of users.
+#[derive(Drop)]
+pub struct Vault {
+    /// The users, by ascending number.
+    pub users: Table<User>,
+    /// What the next `resume` opens.
+    pub arming: Option<Arming>,
+}
+
+/// What the settings keep beside the vault.
+#[derive(Drop)]
+pub struct Books {
+    /// How many changes of the vault were kept: the sequence number of the settings.
+    pub kept: u64,
+    /// The users of an arming whose key is gone, ascending.
+    pub dead: Table<u32>,
+}
