@@ -1,0 +1,7 @@
+pub mod FaultLemmas
+pub mod FieldLemmas
+pub mod FileLemmas
+pub mod ContentLemmas
+pub mod NameLemmas
+pub mod HexLemmas
+pub mod ApartLemmas
