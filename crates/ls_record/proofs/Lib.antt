@@ -1,0 +1,16 @@
+pub mod NumberLemmas
+pub mod RepeatLemmas
+pub mod ReaderLemmas
+pub mod StepLemmas
+pub mod FieldReaders
+pub mod TestLemmas
+pub mod RowReaders
+pub mod RowRules
+pub mod RecordReaders
+pub mod ReadingLemmas
+pub mod WriteLemmas
+pub mod EditReaders
+pub mod FilterLemmas
+pub mod ChangeLemmas
+pub mod EditedLemmas
+pub mod LeadingLemmas

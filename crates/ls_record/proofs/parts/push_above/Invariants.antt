@@ -1,0 +1,7 @@
+use Rattle.std.proofs.Common.{◌≡◌, ◌++◌, take, ltb}
+use Rattle.std.specs.List.{filter}
+use Rattle.ls_record.proofs.parts.push_above.Given as goal
+
+-- those before are put
+abbrev pub invariant-loop-row : goal.invariant-loop-row
+invariant-loop-row l = l.list ≡ l.fn.list ++ filter (λ r. ltb l.user r.user) (take l.row-index l.rows)
