@@ -1,0 +1,99 @@
+use super::*;
+use ls_formats::FileName;
+use ls_record::Record;
+use std::alloc::Global;
+use std::test::*;
+
+/// User 0 has escrow, a PIN and the tokens 5 and 9, user 5 a password, user 6 nothing; user 0 is
+/// armed.
+const THREE: &str = "0203\
+    000000000103000000000000000000020000000000000007020000000000000005\
+    0000000000000009\
+    00000005000400000000000000000004000000000000000b00\
+    00000006000000000000000000000008000000000000000000\
+    010000000301\
+    00000000";
+
+const NONE: &str = "020000";
+
+fn record_of(alloc: Global, digits: &str) -> Result<Record, Fail> {
+    let bytes = hex::decode(alloc, digits)?;
+    Ok(Record::parse(alloc, &bytes).ok().ok_or("record")?)
+}
+
+fn names(record: &Record, weaver: bool, name: &FileName) -> bool {
+    match name {
+        FileName::Protector(name) => names_file(record, weaver, name),
+        FileName::Settings(_) => false,
+    }
+}
+
+/// Whether the record names the file with this name.
+fn names_text(record: &Record, weaver: bool, text: &str) -> bool {
+    match FileName::parse(text.as_bytes()) {
+        Ok(name) => names(record, weaver, &name),
+        Err(_) => false,
+    }
+}
+
+#[test]
+fn a_record_names_files_by_row_and_part(rt: HostRuntime) -> Result<(), Fail> {
+    let record = record_of(rt.alloc(), THREE)?;
+    for (text, with, without) in [
+        ("00000000.0000000000000000.handle", true, true),
+        ("00000000.0000000000000000.e0", true, true),
+        ("00000000.0000000000000000.p1", true, true),
+        ("00000000.0000000000000000.resume", true, true),
+        ("00000000.0000000000000002.spblob", true, true),
+        ("00000000.0000000000000002.pwd", true, true),
+        ("00000000.0000000000000002.metrics", true, true),
+        ("00000000.0000000000000002.weaver", true, false),
+        ("00000000.0000000000000002.secdis", false, true),
+        ("00000000.0000000000000005.spblob", true, true),
+        ("00000000.0000000000000009.secdis", true, true),
+        ("00000000.0000000000000009.weaver", true, false),
+        ("00000000.0000000000000009.pwd", false, false),
+        ("00000000.0000000000000009.metrics", false, false),
+        ("00000000.000000000000000b.spblob", false, false),
+        ("00000000.0000000000000004.spblob", false, false),
+        ("00000005.0000000000000000.handle", true, true),
+        ("00000005.0000000000000000.e0", false, false),
+        ("00000005.0000000000000000.resume", false, false),
+        ("00000005.0000000000000004.spblob", true, true),
+        ("00000005.0000000000000005.spblob", false, false),
+        ("00000006.0000000000000000.handle", false, false),
+        ("00000006.0000000000000008.spblob", true, true),
+        ("00000006.0000000000000008.pwd", false, false),
+        ("00000006.0000000000000008.metrics", false, false),
+        ("00000006.0000000000000008.weaver", true, false),
+        ("00000006.0000000000000008.secdis", false, true),
+        ("00000007.0000000000000008.spblob", false, false),
+    ] {
+        assert_eq!(rt; names_text(&record, true, text), with, "{text}");
+        assert_eq!(rt; names_text(&record, false, text), without, "{text}");
+    }
+    Ok(())
+}
+
+#[test]
+fn a_record_names_keys_and_enrolled_ids(rt: HostRuntime) -> Result<(), Fail> {
+    let record = record_of(rt.alloc(), THREE)?;
+    let none = record_of(rt.alloc(), NONE)?;
+    for (id, key, with, without) in [
+        (0, true, false, false),
+        (2, true, false, true),
+        (4, true, false, true),
+        (5, true, false, false),
+        (7, false, true, true),
+        (8, true, false, false),
+        (9, true, false, false),
+        (11, false, true, true),
+        (12, false, false, false),
+    ] {
+        assert_eq!(rt; names_key(&record, id), key, "{id}");
+        assert_eq!(rt; names_enrolled(&record, true, id), with, "{id}");
+        assert_eq!(rt; names_enrolled(&record, false, id), without, "{id}");
+        assert!(rt; !names_key(&none, id), "{id}");
+    }
+    Ok(())
+}
