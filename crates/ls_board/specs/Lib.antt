@@ -1,4 +1,13 @@
 pub mod Acts
 pub mod Effect
+pub mod Gatekeeper
 pub mod Images
+pub mod Keys
+pub mod Listing
+pub mod Noise
 pub mod Order
+pub mod Places
+pub mod Planned
+pub mod Reach
+pub mod Runs
+pub mod Worlds

@@ -1,9 +1,9 @@
 -- The order of names, and tables whose rows stand in the order of their keys.
-use Rattle.std.specs.Prelude.{◌<◌, ◌^◌, length, IsTrue, ℕ, List, [], ◌∷◌, Bool, false, Option, None, Some}
-use Rattle.std.specs.Ordering.{nat_cmp, is_gt, is_eq}
+use Rattle.std.specs.Prelude.{◌<◌, ◌^◌, length, map, not, IsTrue, ℕ, List, [], ◌∷◌, Bool, false, Option, None, Some}
+use Rattle.std.specs.Ordering.{nat_cmp, is_gt, is_eq, eq_by_cmp}
 use Rattle.std.specs.declared.cmp.Ordering.{Ordering}
 use Rattle.std.specs.List.{prefix_len}
-use Rattle.std.specs.FinMap.Entries.{by_order, is_sorted}
+use Rattle.std.specs.FinMap.Entries.{by_order, is_sorted, where_key}
 use Rattle.std.specs.Cmp.Lexicographic.{slice_cmp}
 
 -- names in the order of their bytes
@@ -25,7 +25,20 @@ module _ {R : Type 0} (rank : R → Ordering) where
   meets None = false
   meets (Some r) = is_eq (rank r)
 
+module _ {K X : Type 0} (order : K → K → Ordering) where
+  -- the rows without that of this key
+  abbrev pub without : K → List (K × X) → List (K × X)
+  without key rows = where_key order (λ other. not (eq_by_cmp order key other)) rows
+
+  -- the keys of the rows strictly rise
+  abbrev pub IsSorted : List (K × X) → Type 0
+  IsSorted rows = IsTrue (is_sorted order rows)
+
 -- a table whose keys strictly rise, with few enough rows to be counted by 32 bits
 pub record IsTable {K X : Type 0} (order : K → K → Ordering) (rows : List (K × X)) : Type 0 where
   pub sorted : IsTrue (is_sorted order rows)
   pub few : length rows < 2 ^ 32
+
+-- keys that strictly rise
+abbrev pub IsAscending : {K : Type 0} → (K → K → Ordering) → List K → Type 0
+IsAscending order keys = IsTrue (is_sorted order (map (λ key. (key, key)) keys))

@@ -1,6 +1,7 @@
 //! The one way to the outside.
-ghost use Rattle.std.specs.Prelude.{◌≡◌, IsTrue};
+ghost use Rattle.std.specs.Prelude.{◌≡◌, ◌≤◌, length, IsTrue};
 ghost use Rattle.ls_board.specs.Acts.{Sight, CanAct, Acts, Readies};
+ghost use Rattle.ls_board.specs.Worlds.{InOrder};
 ghost use Rattle.ls_board.specs.declared.action.Part.{Part as Parts};
 
 use crate::action::{Action, Answer, BoardFault};
@@ -15,7 +16,7 @@ pub trait Board {
     /// What contracts see of it.
     ghost sight: { Self → Sight };
 
-    /// The number of Weaver slots. It never changes.
+    /// The number of Weaver slots, 0 to 256; 0 where there is no Weaver. It never changes.
     fn slots(&self) -> u32
         ensures { result ≡ (sight self.now).slots };
 
@@ -31,7 +32,13 @@ pub trait Board {
 
     /// Where the world is told, the number of slots is that of the world.
     ghost slots_are_told: { (b : Self) → IsTrue (sight b).told
-        → (sight b).slots ≡ (sight b).world.slots };
+        → (sight b).slots ≡ length (sight b).world.slots };
+
+    /// There are at most 256 slots.
+    ghost slots_are_few: { (b : Self) → (sight b).slots ≤ 256 };
+
+    /// Where the world is told, the rows of its tables stand in the order of their keys.
+    ghost tables_are_sorted: { (b : Self) → IsTrue (sight b).told → InOrder (sight b).world };
 
     /// A board of which no call ever fails has counted no fault.
     ghost faults_are_none: { (b : Self) → IsTrue (sight b).never_fails

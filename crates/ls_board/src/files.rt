@@ -1,9 +1,9 @@
 //! Files by their names.
-ghost use Rattle.std.specs.Prelude.{◌≡◌, ◌≤◌, [], length, slice_get, None, Some, IfSome, IfNone, IfOk, OnOk, OnErr};
+ghost use Rattle.std.specs.Prelude.{◌≡◌, ◌≤◌, ◌++◌, ◌∷◌, [], length, slice_get, None, Some, IfSome, IfNone, IfOk, OnOk, OnErr};
 ghost use Rattle.std.specs.FinMap.Entries.{find, put};
-ghost use Rattle.ls_board.specs.Order.{byte_cmp, IsTable};
+ghost use Rattle.ls_board.specs.Order.{byte_cmp, without, IsSorted, IsTable};
 
-use crate::rows::{Ranked, copied_rows, put_row};
+use crate::rows::{Ranked, copied_rows, push_row, put_row};
 use ls_bytes::{Bytes, Memory, Name};
 use std::alloc::Global;
 use std::cmp::Ordering;
@@ -110,6 +110,23 @@ impl FileTable {
             bytes: Bytes::of(self.alloc, bytes)?,
         };
         put_row(&mut self.rows, row)
+    }
+
+    /// Takes the file of this name away, if it is there.
+    pub fn remove(&mut self, name: &[u8])
+        ensures removed { self.new ≡ without byte_cmp name.now self.old }
+    {
+        self.rows
+            .retain(|row| !name.cmp(row.name.as_slice()).is_eq());
+    }
+
+    /// Adds a file at the end.
+    pub fn push(&mut self, row: FileRow) -> Result<(), Memory>
+        requires ascending { IsSorted byte_cmp (self.old ++ row ∷ []) }
+        ensures pushed { OnOk result (self.new ≡ self.old ++ row ∷ []) }
+        ensures kept { OnErr result (self.new ≡ self.old) }
+    {
+        push_row(&mut self.rows, row)
     }
 
     /// The same files again.

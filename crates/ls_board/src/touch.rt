@@ -1,10 +1,10 @@
 //! How files were touched since the last sync.
-ghost use Rattle.std.specs.Prelude.{◌≡◌, ◌≤◌, [], length, slice_get, Some, IfSome, IfNone, OnOk, OnErr, IfOk};
-ghost use Rattle.std.specs.FinMap.Entries.{put};
-ghost use Rattle.ls_board.specs.Order.{byte_cmp, IsTable};
+ghost use Rattle.std.specs.Prelude.{◌≡◌, ◌≤◌, ◌++◌, ◌∷◌, [], length, slice_get, None, Some, IfSome, IfNone, OnOk, OnErr, IfOk};
+ghost use Rattle.std.specs.FinMap.Entries.{find, put};
+ghost use Rattle.ls_board.specs.Order.{byte_cmp, IsSorted, IsTable};
 
 use crate::files::copied_name;
-use crate::rows::{Ranked, copied_rows, put_row};
+use crate::rows::{Ranked, copied_list, copied_rows, push_row, put_row};
 use ls_bytes::{Bytes, Memory, Name, Rows};
 use std::alloc::Global;
 use std::cmp::Ordering;
@@ -33,24 +33,13 @@ pub enum Touch {
     Other,
 }
 
-/// The same ranges again.
-fn copied_spans(alloc: Global, spans: &SpanList) -> Result<SpanList, Memory>
-    ensures same { IfOk result (λ l. l ≡ spans.now) }
-{
-    let mut copy = SpanList::new(alloc);
-    for span in spans.as_slice() {
-        copy.push(*span)?;
-    }
-    Ok(copy)
-}
-
 impl Touch {
     /// The same again.
     pub fn copy(&self, alloc: Global) -> Result<Touch, Memory>
         ensures same { IfOk result (λ t. t ≡ self.now) }
     {
         match self {
-            Touch::Poked(spans) => Ok(Touch::Poked(copied_spans(alloc, spans)?)),
+            Touch::Poked(spans) => Ok(Touch::Poked(copied_list(alloc, spans)?)),
             Touch::Made(None) => Ok(Touch::Made(None)),
             Touch::Made(Some(bytes)) => Ok(Touch::Made(Some(Bytes::of(alloc, bytes.as_slice())?))),
             Touch::Other => Ok(Touch::Other),
@@ -135,6 +124,19 @@ impl TouchTable {
         self.rows.get(at as usize)
     }
 
+    /// How the file of this name was touched, if it was.
+    pub fn how(&self, name: &[u8]) -> Option<&Touch>
+        ensures there { IfSome result (λ how. find byte_cmp name.now self.now ≡ Some how.now) }
+        ensures untouched { IfNone result (find byte_cmp name.now self.now ≡ None) }
+    {
+        for row in &self.rows {
+            if name.cmp(row.name.as_slice()).is_eq() {
+                return Some(&row.how);
+            }
+        }
+        None
+    }
+
     /// Says how the file of this name was touched.
     pub fn put(&mut self, name: &Name, how: Touch) -> Result<(), Memory>
         ensures put { OnOk result (self.new ≡ put byte_cmp name.now how self.old) }
@@ -148,6 +150,15 @@ impl TouchTable {
             how,
         };
         put_row(&mut self.rows, row)
+    }
+
+    /// Adds a row at the end.
+    pub fn push(&mut self, row: TouchRow) -> Result<(), Memory>
+        requires ascending { IsSorted byte_cmp (self.old ++ row ∷ []) }
+        ensures pushed { OnOk result (self.new ≡ self.old ++ row ∷ []) }
+        ensures kept { OnErr result (self.new ≡ self.old) }
+    {
+        push_row(&mut self.rows, row)
     }
 
     /// The same rows again.

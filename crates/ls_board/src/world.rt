@@ -1,12 +1,23 @@
 //! All that a board may keep.
-ghost use Rattle.std.specs.Prelude.{◌≡◌, ◌≤◌, [], IfOk, OnOk, OnErr};
+ghost use Rattle.std.specs.Prelude.{◌≡◌, ◌≤◌, None, IfOk, OnOk, OnErr};
 ghost use Rattle.std.specs.FinMap.Entries.{put};
+ghost use Rattle.ls_board.specs.Effect.{with_file};
 ghost use Rattle.ls_board.specs.Order.{byte_cmp};
+ghost use Rattle.ls_board.specs.Worlds.{blank_world};
 
+use crate::devices::{GkTable, KeyTable};
 use crate::files::FileTable;
+use crate::rows::copied_list;
 use crate::touch::TouchTable;
-use ls_bytes::{Bytes, Memory, Name};
+use ls_bytes::{Bytes, Memory, Name, Rows};
+use ls_weaver::Weaver;
 use std::alloc::Global;
+
+/// The slots by their numbers.
+pub type SlotTable = Weaver;
+
+/// Moments in milliseconds, in the order in which the clock gives them.
+pub type MomentList = Rows<u64>;
 
 /// All that a board may keep.
 #[derive(Drop)]
@@ -15,27 +26,45 @@ pub struct World {
     pub files: FileTable,
     /// The files that were touched since the last sync.
     pub touched: TouchTable,
-    /// The number of Weaver slots.
-    pub slots: u32,
+    /// The Weaver's slots.
+    pub slots: SlotTable,
+    /// The key under which the Gatekeeper signs handles.
+    pub gk_key: [u8; 32],
+    /// The Gatekeeper's records.
+    pub gk: GkTable,
+    /// The keys of the key store.
+    pub keys: KeyTable,
+    /// What the resume cell holds.
+    pub cell: Option<[u8; 32]>,
     /// What is left to be heard.
     pub input: Bytes,
     /// What was said.
     pub said: Bytes,
+    /// The moments that the clock gives next. The last one stays.
+    pub moments: MomentList,
+    /// The noise that is left. Past its end there are zeros.
+    pub noise: Bytes,
 }
 
 impl World {
-    /// A world with so many slots, at most 256, in which nothing is stored.
+    /// A world with so many blank slots, at most 256, in which nothing is stored. The Gatekeeper's
+    /// key is zeros.
     pub fn blank(alloc: Global, slots: u32) -> Result<World, Memory>
         requires { slots ≤ 256 }
-        ensures blank { IfOk result (λ w. w
-            ≡ record { files = []; touched = []; slots = slots; input = []; said = [] }) }
+        ensures blank { IfOk result (λ w. w ≡ blank_world slots) }
     {
         Ok(World {
             files: FileTable::new(alloc),
             touched: TouchTable::new(alloc),
-            slots,
+            slots: Weaver::new(alloc, slots)?,
+            gk_key: [0; 32],
+            gk: GkTable::new(alloc),
+            keys: KeyTable::new(alloc),
+            cell: None,
             input: Bytes::of(alloc, &[])?,
             said: Bytes::of(alloc, &[])?,
+            moments: MomentList::new(alloc),
+            noise: Bytes::of(alloc, &[])?,
         })
     }
 
@@ -48,6 +77,14 @@ impl World {
         self.files.put(name, bytes)
     }
 
+    /// Takes the file of this name away, if it is there. It isn't touched by that.
+    pub fn drop_file(&mut self, name: &Name)
+        ensures dropped { self.new
+            ≡ record self.old { files = with_file self.old.files name.now None } }
+    {
+        self.files.remove(name.as_slice());
+    }
+
     /// The same world again.
     pub fn copy(&self, alloc: Global) -> Result<World, Memory>
         ensures same { IfOk result (λ w. w ≡ self.now) }
@@ -55,9 +92,15 @@ impl World {
         Ok(World {
             files: self.files.copy()?,
             touched: self.touched.copy()?,
-            slots: self.slots,
+            slots: self.slots.copy(alloc)?,
+            gk_key: self.gk_key,
+            gk: self.gk.copy(alloc)?,
+            keys: self.keys.copy(alloc)?,
+            cell: self.cell,
             input: Bytes::of(alloc, self.input.as_slice())?,
             said: Bytes::of(alloc, self.said.as_slice())?,
+            moments: copied_list(alloc, &self.moments)?,
+            noise: Bytes::of(alloc, self.noise.as_slice())?,
         })
     }
 }

@@ -2,7 +2,7 @@
 use Rattle.std.specs.Prelude.{◌≡◌, ◌≤◌, ◌+◌, ◌⊎◌, ◌∷◌, ◌++◌, ℕ, [], List, Option, Some, None, MatchOption, IsSomeAnd}
 use Rattle.std.specs.List.{AllByRecursion}
 use Rattle.ls_board.specs.declared.action.Action.{Action}
-use Rattle.ls_board.specs.declared.action.Action.TheVariants.{Read, Put, Sync, Hear, Say}
+use Rattle.ls_board.specs.declared.action.Action.TheVariants.{Put, Sync, Hear, Say}
 use Rattle.ls_board.specs.declared.world.World.{World}
 use Rattle.ls_board.specs.Acts.{Sight}
 use Rattle.ls_board.specs.Effect.{file_at}
@@ -102,14 +102,15 @@ pub record SaysInTurn (start : World) (users : List ℕ) (met : World) (bytes : 
   pub synced : met.touched ≡ []
   pub stands : StandsFor met (served (users_after users before) line).users
 
--- a call of a run that was begun on a world which stood for these users, with the world that it met
+-- A call of a run that was begun on a world which stood for these users, with the world that it
+-- met. No other action that changes anything is done.
 abbrev pub IsInTurn : World → List ℕ → World × Option Action → Type 0
 IsInTurn start users (met, None) = Unit {0}
-IsInTurn start users (met, Some (Read name)) = Unit {0}
 IsInTurn start users (met, Some (Put name bytes)) = PutsInTurn start users met name bytes
 IsInTurn start users (met, Some Sync) = Unit {0}
 IsInTurn start users (met, Some (Hear max)) = HearsInTurn start users met max
 IsInTurn start users (met, Some (Say bytes)) = SaysInTurn start users met bytes
+IsInTurn start users (met, Some _) = ⊥
 
 -- all calls since the start are in turn
 pub record CallsInTurn (start now : Sight) (users : List ℕ) : Type 0 where
@@ -121,8 +122,5 @@ pub record CallsInTurn (start now : Sight) (users : List ℕ) : Type 0 where
 abbrev pub EndsWithPut : List (World × Option Action) → Type 0
 EndsWithPut [] = ⊥
 EndsWithPut ((met, None) ∷ past) = ⊥
-EndsWithPut ((met, Some (Read name)) ∷ past) = ⊥
 EndsWithPut ((met, Some (Put name bytes)) ∷ past) = Unit {0}
-EndsWithPut ((met, Some Sync) ∷ past) = ⊥
-EndsWithPut ((met, Some (Hear max)) ∷ past) = ⊥
-EndsWithPut ((met, Some (Say bytes)) ∷ past) = ⊥
+EndsWithPut ((met, Some _) ∷ past) = ⊥
