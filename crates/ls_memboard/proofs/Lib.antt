@@ -1,4 +1,9 @@
+mod BaseLemmas
+mod BesideLemmas
 mod CallLemmas
+mod CutLemmas
+mod ListingLemmas
+mod PokeLemmas
 mod RebuildLemmas
 mod ReplayLemmas
 mod StepLemmas

@@ -1,36 +1,64 @@
--- Files and touches that are made again, call by call, are those of the replay.
-use Rattle.std.proofs.Common.{◌≡◌, ◌<◌, ◌+◌, ℕ, Bool, true, false, List, length, take, Option, None, Some, refl, sym, ◌∙◌, ap}
-use Rattle.std.specs.Prelude.{slice_index_or}
+-- What is made again, call by call, is the world of the replay.
+use Rattle.std.proofs.Common.{◌≡◌, ◌<◌, ◌+◌, ℕ, List, [], ◌∷◌, ◌++◌, length, take, Option, None, refl, sym, ◌∙◌, ap}
+use Rattle.std.specs.Prelude.{slice_index_or, Result, Ok, Err, IfOk}
 use Rattle.std.proofs.lemmas.List.{take_more}
-use Rattle.ls_board.specs.declared.action.Action.{Action}
-use Rattle.ls_board.specs.declared.action.Action.TheVariants.{Read, Put, Sync, Hear, Say}
 use Rattle.ls_board.specs.declared.world.World.{World}
 use Rattle.ls_memboard.specs.declared.call.Entry.{Entry}
+use Rattle.ls_memboard.specs.declared.devices.Devices.{Devices}
+use Rattle.ls_memboard.specs.Beside.{bare, beside, with_files_of}
 use Rattle.ls_memboard.specs.Calls.{call_of}
-use Rattle.ls_memboard.specs.Replay.{after_call, replay, files_after}
+use Rattle.ls_memboard.specs.Cuts.{synced_after}
+use Rattle.ls_memboard.specs.Synced.{synced_of}
+use Rattle.ls_memboard.specs.Replay.{after_call, after_entry, replay}
+use Rattle.ls_memboard.proofs.BesideLemmas.{files_call}
 use Rattle.ls_memboard.proofs.ReplayLemmas.{replay_push}
+use Rattle.ls_memboard.proofs.StepLemmas.{beside_step}
 
-files_step : (w : World) (call : Option Action) (whole : Bool) (count : ℕ) (i s : List ℕ)
-    → files_after (record w { input = i; said = s }) call whole ≡ record (after_call w call whole count) { input = i; said = s }
-files_step w None whole count i s = refl
-files_step w (Some (Read n)) true count i s = refl
-files_step w (Some (Put n bytes)) true count i s = refl
-files_step w (Some Sync) true count i s = refl
-files_step w (Some (Hear max)) true count i s = refl
-files_step w (Some (Say bytes)) true count i s = refl
-files_step w (Some (Read n)) false count i s = refl
-files_step w (Some (Put n bytes)) false count i s = refl
-files_step w (Some Sync) false count i s = refl
-files_step w (Some (Hear max)) false count i s = refl
-files_step w (Some (Say bytes)) false count i s = refl
+synced_push : (pool : List ℕ) (w : World) (before : Option (List (List ℕ × List ℕ))) (log : List Entry) (e : Entry)
+    → synced_of pool w before (log ++ e ∷ []) ≡ synced_after (synced_of pool w before log) (call_of pool e.kept) (after_entry pool (replay pool w log) e)
+synced_push pool w before [] e = refl
+synced_push pool w before (x ∷ log) e = synced_push pool (after_entry pool w x) _ log e
 
-pub redone : (pool pool' : List ℕ) (start : World) (log : List Entry) (k : ℕ) (d : Entry) (i s : List ℕ) (w v : World) → pool' ≡ pool → k < length log
-    → w ≡ record (replay pool start (take k log)) { input = i; said = s } → v ≡ files_after w (call_of pool' (slice_index_or log k d).kept) (slice_index_or log k d).whole
-    → v ≡ record (replay pool start (take (k + 1) log)) { input = i; said = s }
-redone pool pool' start log k d i s w v pools within so_far step =
-    let e = slice_index_or log k d in
-    step ∙ ap (λ (p : List ℕ). files_after w (call_of p e.kept) e.whole) pools ∙ ap (λ (w : World). files_after w (call_of pool e.kept) e.whole) so_far ∙ files_step (replay pool start (take k log)) (call_of pool e.kept) e.whole e.count i s
-    ∙ ap (λ (w : World). record w { input = i; said = s }) (sym (ap (replay pool start) (take_more log k d within) ∙ replay_push pool start (take k log) e))
+module _ (pool : List ℕ) (start : World) (log : List Entry) (k : ℕ) (d : Entry) (within : k < length log) where
+  abbrev so_far : World
+  so_far = replay pool start (take k log)
 
-pub rebuilt : (w : World) (i s : List ℕ) → i ≡ w.input → s ≡ w.said → record w { input = i; said = s } ≡ w
-rebuilt w i s inputs saids = λ j. record w { input = inputs j; said = saids j }
+  abbrev next : World
+  next = replay pool start (take (k + 1) log)
+
+  is_next : after_call so_far (call_of pool (slice_index_or log k d).kept) (slice_index_or log k d).whole (slice_index_or log k d).count ≡ next
+  is_next = sym (ap (replay pool start) (take_more log k d within) ∙ replay_push pool start (take k log) (slice_index_or log k d))
+
+  pub files_redone : (pool' : List ℕ) (w v : World) → pool' ≡ pool → w ≡ with_files_of start (replay pool start (take k log))
+      → v ≡ with_files_of w (after_call w (call_of pool' (slice_index_or log k d).kept) (slice_index_or log k d).whole (slice_index_or log k d).count)
+      → v ≡ with_files_of start (replay pool start (take (k + 1) log))
+  files_redone pool' w v pools met done =
+      let e = slice_index_or log k d in
+      done ∙ (λ i. with_files_of (met i) (after_call (met i) (call_of (pools i) e.kept) e.whole e.count))
+      ∙ files_call so_far start (call_of pool e.kept) e.whole e.count ∙ ap (with_files_of start) is_next
+
+  pub devices_redone : (pool' : List ℕ) (before roomy after : Devices) → pool' ≡ pool → beside before ≡ bare (replay pool start (take k log)) → beside roomy ≡ beside before
+      → beside after ≡ bare (after_call (beside roomy) (call_of pool' (slice_index_or log k d).kept) (slice_index_or log k d).whole (slice_index_or log k d).count)
+      → beside after ≡ bare (replay pool start (take (k + 1) log))
+  devices_redone pool' before roomy after pools met same done =
+      let e = slice_index_or log k d in
+      beside_step roomy after so_far (call_of pool' e.kept) e.whole e.count (same ∙ met) done
+      ∙ ap (λ (p : List ℕ). bare (after_call so_far (call_of p e.kept) e.whole e.count)) pools ∙ ap bare is_next
+
+  -- the files at the last sync
+  pub sync_redone : (pool' : List ℕ) (before after : Option (List (List ℕ × List ℕ))) (v : World) → pool' ≡ pool → v ≡ with_files_of start (replay pool start (take (k + 1) log))
+      → before ≡ synced_of pool start None (take k log) → after ≡ synced_after before (call_of pool' (slice_index_or log k d).kept) v
+      → after ≡ synced_of pool start None (take (k + 1) log)
+  sync_redone pool' before after v pools world met kept =
+      let e = slice_index_or log k d in
+      kept ∙ (λ i. synced_after (met i) (call_of (pools i) e.kept) (world i))
+      ∙ ap (synced_after (synced_of pool start None (take k log)) (call_of pool e.kept)) (sym is_next)
+      ∙ sym (synced_push pool start None (take k log) e) ∙ ap (synced_of pool start None) (sym (take_more log k d within))
+
+-- files and devices together are the world
+rejoined : (start w v b r : World) → w ≡ with_files_of b v → v ≡ with_files_of start r → b ≡ bare r → w ≡ r
+rejoined start w v b r is files devices = is ∙ (λ i. with_files_of (devices i) (files i))
+
+pub rebuilt : {E : Type 0} (result : Result World E) (start v b r : World) → IfOk result (λ w. w ≡ with_files_of b v) → v ≡ with_files_of start r → b ≡ bare r → IfOk result (λ w. w ≡ r)
+rebuilt (Ok w) start v b r is files devices = rejoined start w v b r is files devices
+rebuilt (Err e) start v b r is files devices = tt

@@ -1,7 +1,12 @@
+pub mod Beside
 pub mod Calls
+pub mod Contents
+pub mod Cuts
 pub mod Failing
 pub mod Failures
+pub mod Listed
 pub mod Noted
 pub mod Replay
 pub mod Seen
 pub mod Step
+pub mod Synced

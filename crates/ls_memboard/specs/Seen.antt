@@ -1,5 +1,6 @@
 -- What is seen of a board in memory.
-use Rattle.std.specs.Prelude.{true, List, []}
+use Rattle.std.specs.Prelude.{true, List, [], length}
+use Rattle.ls_board.specs.declared.world.World.{World}
 use Rattle.ls_board.specs.Acts.{Sight}
 use Rattle.ls_memboard.specs.declared.memory.MemBoard.{MemBoard}
 use Rattle.ls_memboard.specs.declared.failure.Failure.{Failure}
@@ -20,5 +21,18 @@ sight_of m = record {
   never_fails = has_none m.failures;
   actions = m.actions;
   bytes = m.bytes;
-  slots = m.start.slots;
+  slots = length m.start.slots;
+}
+
+-- a board that was begun on this world, and fails these calls
+abbrev pub fresh : World → List Failure → Sight
+fresh world failures = record {
+  told = true;
+  world = world;
+  past = [];
+  faults = λ p. 0;
+  never_fails = has_none failures;
+  actions = 0;
+  bytes = 0;
+  slots = length world.slots;
 }

@@ -1,18 +1,74 @@
 //! A call that was done, as far as it is kept.
 ghost use Rattle.std.specs.Prelude.{◌≡◌};
-ghost use Rattle.ls_board.specs.Effect.{part_of, weight_of};
-ghost use Rattle.ls_memboard.specs.Calls.{changed_a_file};
+ghost use Rattle.ls_memboard.specs.Calls.{changed_a_file, is_file_change};
 
-use ls_board::{Action, Part};
+use ls_board::Part;
 
-/// What kind of change a call makes. One that only reads is `Quiet`.
+/// What kind of change a call makes. One that only reads is `Quiet`. Names, bytes and passwords
+/// stand in the pool.
 #[derive(Clone, Copy)]
 pub enum Kind {
     Quiet,
+    Make {
+        len: u32,
+    },
     Put,
+    Poke {
+        at: u32,
+    },
+    Remove,
     Sync,
-    Hear { max: u32 },
+    WeaverWrite {
+        slot: u32,
+        key: [u8; 16],
+        value: [u8; 16],
+    },
+    WeaverRead {
+        slot: u32,
+        key: [u8; 16],
+        moment: u64,
+    },
+    GkEnroll {
+        sid: u64,
+    },
+    GkVerify {
+        handle: [u8; 49],
+        moment: u64,
+    },
+    GkForget {
+        sid: u64,
+    },
+    KeyPut {
+        alias: u64,
+        key: [u8; 32],
+    },
+    KeyDrop {
+        alias: u64,
+    },
+    ResumeStore {
+        key: [u8; 32],
+    },
+    ResumeTake,
+    Hear {
+        max: u32,
+    },
     Say,
+    Now,
+    Draw {
+        len: u32,
+    },
+}
+
+impl Kind {
+    /// Whether a whole call of this kind changes what a file holds.
+    fn is_file_change(&self) -> bool
+        ensures same { result ≡ is_file_change self.now }
+    {
+        match self {
+            Kind::Make { .. } | Kind::Put | Kind::Poke { .. } | Kind::Remove => true,
+            _ => false,
+        }
+    }
 }
 
 /// A call, with the place in the pool where its name stands, and behind that its bytes.
@@ -35,35 +91,10 @@ pub struct Entry {
 }
 
 impl Entry {
-    /// Whether it changed a file.
+    /// Whether it changed what a file holds.
     pub(crate) fn changed_a_file(&self) -> bool
         ensures same { result ≡ changed_a_file self.now }
     {
-        match self.kept.kind {
-            Kind::Put => self.whole,
-            Kind::Quiet | Kind::Sync | Kind::Hear { .. } | Kind::Say => false,
-        }
-    }
-}
-
-/// The part that does the action.
-pub(crate) fn part_of(a: &Action) -> Part
-    ensures same { result ≡ part_of a.now }
-{
-    match a {
-        Action::Read { .. } | Action::Put { .. } | Action::Sync => Part::Files,
-        Action::Hear { .. } => Part::Input,
-        Action::Say { .. } => Part::Output,
-    }
-}
-
-/// The bytes of room that the action uses up.
-pub(crate) fn weight_of(a: &Action) -> usize
-    ensures same { result ≡ weight_of a.now }
-{
-    match a {
-        Action::Put { name, bytes } => name.as_slice().len() + bytes.as_slice().len(),
-        Action::Say { bytes } => bytes.as_slice().len(),
-        Action::Read { .. } | Action::Sync | Action::Hear { .. } => 0,
+        self.whole && self.kept.kind.is_file_change()
     }
 }

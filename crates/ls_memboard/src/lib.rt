@@ -2,16 +2,21 @@
 #![tactic(auto)]
 
 mod acting;
+mod answers;
 mod call;
+mod cut;
+mod devices;
 mod failure;
+mod listing;
 mod memory;
 mod past;
+mod pick;
 mod pool;
 mod reading;
 mod rebuild;
+mod redo;
+mod tape;
 
 pub use failure::{Failure, FailureList};
 pub use memory::MemBoard;
-
-#[cfg(test)]
-mod tests;
+pub use pick::Pick;

@@ -1,51 +1,17 @@
 //! How a call is noted.
-ghost use Rattle.std.specs.Prelude.{◌≡◌, ◌+◌, ◌≤◌, ◌++◌, ◌∷◌, [], ℕ, length, drop, false, true, vec_len, vec_capacity};
+ghost use Rattle.std.specs.Prelude.{◌≡◌, ◌+◌, ◌≤◌, ◌++◌, ◌∷◌, [], false, true, IsTrue, vec_len, vec_capacity};
 ghost use Rattle.std.specs.List.{filter};
 ghost use Rattle.ls_memboard.specs.Calls.{changed_a_file};
-ghost use Rattle.ls_board.specs.Acts.{Sight};
 ghost use Rattle.ls_board.specs.Effect.{weight_of};
 ghost use Rattle.ls_board.specs.Images.{changing};
-ghost use Rattle.ls_board.specs.declared.world.World.{World as Worlds};
 ghost use Rattle.ls_memboard.specs.Failures.{has_none};
-ghost use Rattle.ls_memboard.specs.Noted.{IsNoted, IsHearable};
-ghost use Rattle.ls_memboard.specs.Replay.{after_call};
+ghost use Rattle.ls_memboard.specs.Noted.{IsNoted};
+ghost use Rattle.ls_memboard.specs.Replay.{call_fits};
 
-use crate::call::{Entry, part_of, weight_of};
+use crate::call::Entry;
 use crate::memory::MemBoard;
-use crate::pool::{append, keep};
+use crate::pool::keep;
 use ls_board::Action;
-
-/// How many bytes of the input a call takes, where a whole one takes so many.
-fn taken_by(a: &Action, whole: bool, count: usize) -> usize
-    ensures input { (w : Worlds) → (after_call w (changing a.now) whole count).input
-        ≡ drop result w.input }
-    ensures hears { (s : Sight) → IsHearable s a.now count → result ≤ length s.world.input }
-{
-    if !whole {
-        return 0;
-    }
-    match a {
-        Action::Hear { .. } => count,
-        Action::Read { .. } | Action::Put { .. } | Action::Sync | Action::Say { .. } => 0,
-    }
-}
-
-/// Says what the call says, where it is whole.
-fn say(said: &mut Vec<u8>, a: &Action, whole: bool)
-    requires { vec_len said.old + weight_of a.now ≤ vec_capacity said.old }
-    ensures said { (w : Worlds) (count : ℕ) → w.said ≡ said.old.items
-        → (after_call w (changing a.now) whole count).said ≡ said.new.items }
-    ensures len { vec_len said.new ≤ vec_len said.old + weight_of a.now }
-    ensures capacity { vec_capacity said.old ≤ vec_capacity said.new }
-{
-    if !whole {
-        return;
-    }
-    match a {
-        Action::Say { bytes } => append(said, bytes.as_slice()),
-        Action::Read { .. } | Action::Put { .. } | Action::Sync | Action::Hear { .. } => {}
-    }
-}
 
 /// Keeps the entry among the changes, where it changed a file.
 fn keep_change(changes: &mut Vec<Entry>, e: Entry)
@@ -66,7 +32,7 @@ impl MemBoard {
     pub(crate) fn note(&mut self, a: &Action, whole: bool, failed: bool, count: usize)
         requires actions { 1 ≤ self.old.actions }
         requires bytes { weight_of a.now ≤ self.old.bytes }
-        requires hearable { IsHearable (sight_of self.old) a.now count }
+        requires fits { IsTrue (call_fits (sight_of self.old).world (changing a.now)) }
         requires listed { failed ≡ true → has_none self.old.failures ≡ false }
         ensures noted { IsNoted (sight_of self.old) a.now whole failed count (sight_of self.new) }
         ensures failures { self.new.failures ≡ self.old.failures }
@@ -74,16 +40,15 @@ impl MemBoard {
         let kept = keep(&mut self.pool, a);
         let entry = Entry {
             kept,
-            part: part_of(a),
+            part: a.part(),
             whole,
             failed,
             count,
         };
         self.log.push_reserved(entry);
         keep_change(&mut self.changes, entry);
-        say(&mut self.said, a, whole);
-        self.heard += taken_by(a, whole, count);
+        self.devices.redo(&self.pool, &entry);
         self.actions -= 1;
-        self.bytes -= weight_of(a);
+        self.bytes -= a.weight() as usize;
     }
 }

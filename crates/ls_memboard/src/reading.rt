@@ -1,14 +1,45 @@
 //! What a file holds, by the calls that changed files.
-ghost use Rattle.std.specs.Prelude.{◌≡◌, IfOk};
+ghost use Rattle.std.specs.Prelude.{◌≡◌, ◌≤◌, ◌+◌, Some, IfOk, OnOk, length, replicate};
 ghost use Rattle.std.specs.FinMap.Entries.{find};
+ghost use Rattle.ls_board.specs.Effect.{poked_bytes};
 ghost use Rattle.ls_board.specs.Order.{byte_cmp};
 ghost use Rattle.ls_memboard.specs.Calls.{call_of, IsIn};
-ghost use Rattle.ls_memboard.specs.Replay.{shown, content_after, contents_after, AllIn};
+ghost use Rattle.ls_memboard.specs.Contents.{shown, content_after, contents_after};
+ghost use Rattle.ls_memboard.specs.Replay.{AllIn};
 
 use crate::call::{Entry, Kind};
 use crate::pool::part;
 use ls_board::FileTable;
 use std::alloc::AllocError;
+
+/// Makes it hold these bytes.
+pub(crate) fn hold(out: &mut Vec<u8>, bytes: &[u8]) -> Result<(), AllocError>
+    ensures held { OnOk result (out.new.items ≡ bytes.now) }
+{
+    out.clear();
+    out.extend_from_slice(bytes)
+}
+
+/// Makes it hold so many zeros.
+pub(crate) fn hold_zeros(out: &mut Vec<u8>, len: u32) -> Result<(), AllocError>
+    ensures held { OnOk result (out.new.items ≡ replicate len 0) }
+{
+    out.clear();
+    out.resize(len as usize, 0)
+}
+
+/// Writes bytes over those from this place on.
+pub(crate) fn poke(out: &mut Vec<u8>, at: u32, bytes: &[u8]) -> Result<(), AllocError>
+    ensures poked { OnOk result (out.new.items ≡ poked_bytes out.old.items at bytes.now) }
+{
+    let from = at as usize;
+    if from <= out.len() && bytes.len() <= out.len() - from {
+        out[from..from + bytes.len()].copy_from_slice(bytes);
+        return Ok(());
+    }
+    out.truncate(from);
+    out.extend_from_slice(bytes)
+}
 
 /// The file of this name after one call, and whether it is there.
 fn step(
@@ -30,13 +61,24 @@ fn step(
     if !name.cmp(part(pool, kept.at, kept.name)).is_eq() {
         return Ok(found);
     }
+    let bytes = part(pool, kept.at + kept.name, kept.bytes);
     match kept.kind {
-        Kind::Put => {
-            out.clear();
-            out.extend_from_slice(part(pool, kept.at + kept.name, kept.bytes))?;
+        Kind::Make { len } => {
+            hold_zeros(out, len)?;
             Ok(true)
         }
-        Kind::Quiet | Kind::Sync | Kind::Hear { .. } | Kind::Say => Ok(found),
+        Kind::Put => {
+            hold(out, bytes)?;
+            Ok(true)
+        }
+        Kind::Poke { at } => {
+            if found {
+                poke(out, at, bytes)?;
+            }
+            Ok(found)
+        }
+        Kind::Remove => Ok(false),
+        _ => Ok(found),
     }
 }
 

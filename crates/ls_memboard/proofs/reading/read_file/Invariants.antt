@@ -1,7 +1,7 @@
 use Rattle.std.proofs.Common.{◌≡◌, drop}
 use Rattle.std.specs.FinMap.Entries.{find}
 use Rattle.ls_board.specs.Order.{byte_cmp}
-use Rattle.ls_memboard.specs.Replay.{shown, contents_after}
+use Rattle.ls_memboard.specs.Contents.{shown, contents_after}
 use Rattle.ls_memboard.proofs.reading.read_file.Given as goal
 
 abbrev pub invariant-loop-e : goal.invariant-loop-e

@@ -15,14 +15,14 @@ use Rattle.ls_memboard.proofs.acting.MemBoardBoard.act.Goals as goal
 pub returns-in-Some-clause-acts : goal.returns-in-Some-clause-acts
 returns-in-Some-clause-acts c =
     let s = c.args.self.now in
-    subst (λ (p : Part). Acts (sight_of s) c.args.a.now (Err (Failed p)) c.clear.new.self.items (sight_of c.note.new.self)) (sym c.part_of.ensures.same)
-    (failed_acts (sight_of s) (sight_of c.note.new.self) c.args.a.now c.in-Some.done c.could_hear-count.result c.clear.new.self.items refl s.in_step.ordered c.requires (subst (λ (n : ℕ). IsHearable (sight_of s) c.args.a.now n) (sym c.could_hear-count.ensures.most) (most_hearable (sight_of s) c.args.a.now)) c.note.ensures.noted)
+    subst (λ (p : Part). Acts (sight_of s) c.args.a.now (Err (Failed p)) c.clear.new.self.items (sight_of c.note.new.self)) (sym c.part.ensures.part)
+    (failed_acts (sight_of s) (sight_of c.note.new.self) c.args.a.now c.in-Some.done c.could_hear-count.result c.clear.new.self.items refl s.in_step.in_order.files c.requires (subst (λ (n : ℕ). IsHearable (sight_of s) c.args.a.now n) (sym c.could_hear-count.ensures.most) (most_hearable (sight_of s) c.args.a.now)) c.note.ensures.noted)
 
 pub returns-in-Ok-clause-acts : goal.returns-in-Ok-clause-acts
 returns-in-Ok-clause-acts c =
     let same : c.len-in-Ok.result ≡ length c.answer.new.out.items = search rules in
     let noted = subst (λ (n : ℕ). IsNoted (sight_of c.args.self.now) c.args.a.now true false n (sight_of c.note-in-Ok.new.self)) same c.note-in-Ok.ensures.noted in
-    ok_acts (sight_of c.args.self.now) (sight_of c.note-in-Ok.new.self) c.args.a.now c.in-Ok.answer c.answer.new.out.items c.in-Ok.ensures.answer noted
+    ok_acts (sight_of c.args.self.now) (sight_of c.note-in-Ok.new.self) c.args.a.now c.in-Ok.answer c.answer.new.out.items c.in-Ok.ensures.answer c.in-Ok.ensures.lists noted
 
 pub returns-in-Err-clause-acts : goal.returns-in-Err-clause-acts
 returns-in-Err-clause-acts c = lacking_acts (sight_of c.args.self.now) (sight_of c.note-in-Err.new.self) c.args.a.now c.answer.new.out.items c.in-Err.ensures.lacking c.note-in-Err.ensures.noted
@@ -31,7 +31,7 @@ pub returns-in-Some-clause-failing : goal.returns-in-Some-clause-failing
 returns-in-Some-clause-failing c =
     let s = c.args.self.now in
     let moment : c.len.result ≡ length (sight_of s).past = omega (arith, length-past_from s.pool.items s.start s.log.items [], c.len.ensures, s.log.ok) in
-    subst (λ (p : Part). FailsAsListed (failures_of s) (sight_of s) c.args.a.now (Err (Failed p)) (sight_of c.note.new.self)) (sym c.part_of.ensures.same)
+    subst (λ (p : Part). FailsAsListed (failures_of s) (sight_of s) c.args.a.now (Err (Failed p)) (sight_of c.note.new.self)) (sym c.part.ensures.part)
     (listed_call (failures_of s) (sight_of s) (sight_of c.note.new.self) c.args.a.now c.in-Some.done (ap (outcome_at (failures_of s)) (sym moment) ∙ sym (c.in-Some.ensures.first ∙ ap (λ (f : List Failure). outcome_at f c.len.result) c.as_slice.ensures.same))
     (subst (λ (n : ℕ). IsNoted (sight_of s) c.args.a.now c.in-Some.done true n (sight_of c.note.new.self)) c.could_hear-count.ensures.most c.note.ensures.noted))
 
@@ -46,7 +46,3 @@ returns-in-Err-clause-failing c =
     let s = c.args.self.now in
     let moment : c.len.result ≡ length (sight_of s).past = omega (arith, length-past_from s.pool.items s.start s.log.items [], c.len.ensures, s.log.ok) in
     lacking_call (failures_of s) (sight_of s) (sight_of c.note-in-Err.new.self) c.args.a.now 0 (ap (outcome_at (failures_of s)) (sym moment) ∙ sym (c.in_default.ensures.first ∙ ap (λ (f : List Failure). outcome_at f c.len.result) c.as_slice.ensures.same)) c.note-in-Err.ensures.noted
-
-pub note-requires-clause-hearable : goal.note-requires-clause-hearable
-note-requires-clause-hearable c =
-    subst (λ (n : ℕ). IsHearable (sight_of c.args.self.now) c.args.a.now n) (sym c.could_hear-count.ensures.most) (most_hearable (sight_of c.args.self.now) c.args.a.now)

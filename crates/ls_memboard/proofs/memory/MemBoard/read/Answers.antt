@@ -4,7 +4,8 @@ use Rattle.ls_board.specs.declared.action.Answer.TheVariants.{Bytes, Absent}
 use Rattle.ls_board.specs.Effect.{file_at}
 use Rattle.ls_memboard.specs.declared.call.Entry.{Entry}
 use Rattle.ls_memboard.specs.Calls.{IsIn, changed_a_file}
-use Rattle.ls_memboard.specs.Replay.{AllIn, IsRead, shown, contents_after}
+use Rattle.ls_memboard.specs.Contents.{IsRead, shown, contents_after}
+use Rattle.ls_memboard.specs.Replay.{AllIn}
 use Rattle.ls_memboard.proofs.ReplayLemmas.{file_shown}
 use Rattle.ls_memboard.proofs.memory.MemBoard.read.Goals as goal
 
