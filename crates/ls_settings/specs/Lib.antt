@@ -1,0 +1,6 @@
+pub mod Refusals
+pub mod Loaded
+pub mod Commits
+pub mod FileReading
+pub mod Loading
+pub mod Keeping
