@@ -1,21 +1,20 @@
 //! The program: a script on standard input, served over a board in memory.
 #![tactic(auto)]
 
+mod input;
 mod report;
 
+use input::take_script;
 use ls_board::{Part, World};
 use ls_bytes::{Bytes, Memory};
 use ls_memboard::{FailureList, MemBoard};
 use ls_top::{Status, run};
 use report::report;
 use std::alloc::Global;
-use std::io::{ErrorKind, Read, Write};
+use std::io::Write;
 use std::process::ExitCode;
 use std::rt::Env;
 use std::{env, io};
-
-/// The most bytes that are taken from standard input.
-const MOST_INPUT: u64 = 1 << 20;
 
 /// The Weaver slots of the board.
 const SLOTS: u32 = 64;
@@ -42,11 +41,11 @@ fn serve(rt: &HostRuntime, words: &[String]) -> Status {
     if words.is_empty() {
         return Status::Usage;
     }
-    let input = match input(rt) {
-        Ok(input) => input,
+    let script = match take_script(rt.alloc(), rt.stdin()) {
+        Ok(script) => script,
         Err(status) => return status,
     };
-    let mut board = match board(rt.alloc(), input) {
+    let mut board = match board(rt.alloc(), script) {
         Ok(board) => board,
         Err(Memory) => return Status::Memory,
     };
@@ -57,27 +56,10 @@ fn serve(rt: &HostRuntime, words: &[String]) -> Status {
     }
 }
 
-/// All of standard input, or why the program ends without it.
-fn input(rt: &HostRuntime) -> Result<Bytes, Status> {
-    let mut bytes = Vec::new(rt.alloc());
-    match rt.stdin().take(MOST_INPUT + 1).read_to_end(&mut bytes) {
-        Ok(_) => {}
-        Err(e) if e.kind() == ErrorKind::OutOfMemory => return Err(Status::Memory),
-        Err(_) => return Err(Status::Fault(Part::Input)),
-    }
-    if bytes.len() as u64 > MOST_INPUT {
-        return Err(Status::TooLong);
-    }
-    match Bytes::of(rt.alloc(), &bytes) {
-        Ok(input) => Ok(input),
-        Err(Memory) => Err(Status::Memory),
-    }
-}
-
-/// A board on which nothing is stored, with this input.
-fn board(alloc: Global, input: Bytes) -> Result<MemBoard, Memory> {
+/// A board on which nothing is stored, with this script as its input.
+fn board(alloc: Global, script: Bytes) -> Result<MemBoard, Memory> {
     let mut world = World::blank(alloc, SLOTS)?;
-    world.input = input;
+    world.input = script;
     MemBoard::new(alloc, world, FailureList::new(alloc))
 }
 

@@ -1,0 +1,2 @@
+mod NameText
+mod ScriptLemmas
