@@ -1,0 +1,13 @@
+pub mod ByteLemmas
+pub mod LayerLemmas
+pub mod WritingLemmas
+pub mod CredentialLemmas
+pub mod TokenLemmas
+pub mod MatchLemmas
+pub mod HeldLemmas
+pub mod ActionLemmas
+pub mod ReadingLemmas
+pub mod ApartLemmas
+pub mod PlanLemmas
+pub mod DeviceLemmas
+pub mod RetiringLemmas

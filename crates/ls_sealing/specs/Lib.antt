@@ -1,0 +1,9 @@
+pub mod Chain
+pub mod Protectors
+pub mod Seals
+pub mod Apart
+pub mod Draws
+pub mod Building
+pub mod Sparing
+pub mod Readings
+pub mod Pushing
