@@ -1,0 +1,4 @@
+pub mod StoredLemmas
+pub mod SlotLemmas
+pub mod HeldLemmas
+pub mod SealsLemmas
