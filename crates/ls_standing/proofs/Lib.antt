@@ -1,0 +1,21 @@
+pub mod ContainsLemmas
+pub mod NamedLemmas
+pub mod FrameLemmas
+pub mod SameLemmas
+pub mod QuietLemmas
+pub mod TouchLemmas
+pub mod OneLemmas
+pub mod BlankLemmas
+pub mod PairLemmas
+pub mod SlotFileLemmas
+pub mod SlotLemmas
+pub mod ProtectorLemmas
+pub mod IdLemmas
+pub mod CheckLemmas
+pub mod UnnamedLemmas
+mod OpeningFacts
+pub mod CommitLemmas
+pub mod ResumeLemmas
+pub mod AskingLemmas
+pub mod PassingLemmas
+pub mod SoundLemmas

@@ -1,0 +1,11 @@
+pub mod Named
+pub mod NamedProtectors
+pub mod Opening
+pub mod Sound
+pub mod Standing
+pub mod Asking
+pub mod Bare
+pub mod Quiet
+pub mod Same
+pub mod Texts
+pub mod SameTexts
