@@ -1,0 +1,4 @@
+mod CallLemmas
+mod RestLemmas
+mod ChangeLemmas
+mod SightLemmas

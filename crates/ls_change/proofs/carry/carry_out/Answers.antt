@@ -1,0 +1,71 @@
+use Rattle.std.proofs.Common.{◌++◌, Err}
+use Rattle.std.proofs.lemmas.Result.{err_from_is_err_and}
+use Rattle.ls_settings.specs.declared.plan.Committed.{Committed}
+use Rattle.ls_change.proofs.CallLemmas.{did_both, keeps_behind, failed_keeps}
+use Rattle.ls_change.proofs.SightLemmas.{first_crash, commit_ready, second_crash, can_finish, third_crash, did_all, ends_durable, ends_ready}
+use Rattle.ls_change.proofs.carry.carry_out.Goals as goal
+
+pub returns-in-Err-clause-keeps : goal.returns-in-Err-clause-keeps
+returns-in-Err-clause-keeps g c =
+    failed_keeps {T = Committed} (g.B.Board.sight c.args.board.now) (g.B.Board.sight c.run_plan.new.board) _ _ c.in-Err.fault.part c.in-Err.ensures.failed
+
+pub returns-in-Err-clause-crash : goal.returns-in-Err-clause-crash
+returns-in-Err-clause-crash g c = λ told old new was ready.
+    first_crash (g.B.Board.sight c.args.board.now) c.args.settings.now c.args.work c.requires.quiet (g.B.Board.sight c.run_plan.new.board) c.run_plan.ensures.crash told old new was
+
+pub commit-requires-clause-ready : goal.commit-requires-clause-ready
+commit-requires-clause-ready g c =
+    commit_ready (g.B.Board.sight c.args.board.now) c.args.settings.now c.args.work c.requires.quiet (g.B.Board.sight c.run_plan.new.board) c.run_plan.ensures.crash c.in_default.ensures.done
+
+pub returns-in_err-done-clause-keeps : goal.returns-in_err-done-clause-keeps
+returns-in_err-done-clause-keeps g c =
+    let p = err_from_is_err_and c.from_residual.result c.from_residual.ensures.1 in
+    rw (p.1, p.2)
+    (keeps_behind {T = Committed} (g.B.Board.sight c.args.board.now) (g.B.Board.sight c.run_plan.new.board) (g.B.Board.sight c.commit.new.board) c.args.work.before (Err c.in_err-done.field-0.0)
+    c.in_default.ensures.done c.in_err-done.ensures.keeps)
+
+pub returns-in_err-done-clause-crash : goal.returns-in_err-done-clause-crash
+returns-in_err-done-clause-crash g c =
+    second_crash (g.B.Board.sight c.args.board.now) c.args.settings.now c.args.work c.requires.quiet (g.B.Board.sight c.run_plan.new.board) c.run_plan.ensures.crash c.in_default.ensures.done
+    (g.B.Board.sight c.commit.new.board) c.commit.ensures.crash
+
+pub run_plan-requires-2 : goal.run_plan-requires-2
+run_plan-requires-2 g c =
+    can_finish (g.B.Board.sight c.args.board.now) c.args.settings.now c.args.work c.requires.quiet (g.B.Board.sight c.run_plan.new.board) c.run_plan.ensures.crash c.in_default.ensures.done
+    (g.B.Board.sight c.commit.new.board) c.commit.ensures.crash c.in_ok-done.ensures.did c.in_ok-done.ensures.ready c.in_ok-done.ensures.but c.requires.room
+
+pub returns-in-Ok-clause-did : goal.returns-in-Ok-clause-did
+returns-in-Ok-clause-did g c =
+    did_all (g.B.Board.sight c.args.board.now) c.args.settings.now c.args.work c.requires.quiet (g.B.Board.sight c.run_plan.new.board) c.run_plan.ensures.crash c.in_default.ensures.done
+    (g.B.Board.sight c.commit.new.board) c.commit.ensures.crash c.in_ok-done.ensures.did c.in_ok-done.ensures.ready c.in_ok-done.ensures.but
+    (g.B.Board.sight c.run_plan-2.new.board) c.in-Ok.ensures.done
+
+pub returns-in-Ok-clause-crash : goal.returns-in-Ok-clause-crash
+returns-in-Ok-clause-crash g c =
+    third_crash (g.B.Board.sight c.args.board.now) c.args.settings.now c.args.work c.requires.quiet (g.B.Board.sight c.run_plan.new.board) c.run_plan.ensures.crash c.in_default.ensures.done
+    (g.B.Board.sight c.commit.new.board) c.commit.ensures.crash c.in_ok-done.ensures.did c.in_ok-done.ensures.ready c.in_ok-done.ensures.but
+    (g.B.Board.sight c.run_plan-2.new.board) c.run_plan-2.ensures.crash
+
+pub returns-in-Ok-clause-done : goal.returns-in-Ok-clause-done
+returns-in-Ok-clause-done g c =
+    ends_durable (g.B.Board.sight c.args.board.now) c.args.settings.now c.args.work c.requires.quiet (g.B.Board.sight c.run_plan.new.board) c.run_plan.ensures.crash c.in_default.ensures.done
+    (g.B.Board.sight c.commit.new.board) c.commit.ensures.crash c.in_ok-done.ensures.did c.in_ok-done.ensures.ready c.in_ok-done.ensures.but
+    (g.B.Board.sight c.run_plan-2.new.board) c.in-Ok.ensures.done
+
+pub returns-in-Ok-clause-ready : goal.returns-in-Ok-clause-ready
+returns-in-Ok-clause-ready g c =
+    ends_ready (g.B.Board.sight c.args.board.now) c.args.settings.now c.args.work c.requires.quiet (g.B.Board.sight c.run_plan.new.board) c.run_plan.ensures.crash c.in_default.ensures.done
+    (g.B.Board.sight c.commit.new.board) c.commit.ensures.crash c.in_ok-done.ensures.did c.in_ok-done.ensures.ready c.in_ok-done.ensures.but
+    (g.B.Board.sight c.run_plan-2.new.board) c.in-Ok.ensures.done
+
+pub returns-clause-keeps : goal.returns-clause-keeps
+returns-clause-keeps g c =
+    keeps_behind {T = Committed} (g.B.Board.sight c.args.board.now) (g.B.Board.sight c.commit.new.board) (g.B.Board.sight c.run_plan-2.new.board) (c.args.work.before ++ c.args.work.commit.actions) (Err c.in-Err-run_plan.fault.part)
+    (did_both (g.B.Board.sight c.args.board.now) (g.B.Board.sight c.run_plan.new.board) (g.B.Board.sight c.commit.new.board) c.args.work.before c.args.work.commit.actions c.in_default.ensures.done c.in_ok-done.ensures.did)
+    (failed_keeps {T = Committed} (g.B.Board.sight c.commit.new.board) (g.B.Board.sight c.run_plan-2.new.board) _ _ c.in-Err-run_plan.fault.part c.in-Err-run_plan.ensures.failed)
+
+pub returns-clause-crash : goal.returns-clause-crash
+returns-clause-crash g c =
+    third_crash (g.B.Board.sight c.args.board.now) c.args.settings.now c.args.work c.requires.quiet (g.B.Board.sight c.run_plan.new.board) c.run_plan.ensures.crash c.in_default.ensures.done
+    (g.B.Board.sight c.commit.new.board) c.commit.ensures.crash c.in_ok-done.ensures.did c.in_ok-done.ensures.ready c.in_ok-done.ensures.but
+    (g.B.Board.sight c.run_plan-2.new.board) c.run_plan-2.ensures.crash
