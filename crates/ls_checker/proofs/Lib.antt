@@ -1,0 +1,7 @@
+mod HandleLemmas
+mod WalkLemmas
+mod ZipLemmas
+mod DecisionLemmas
+mod StandingLemmas
+mod SlotNameLemmas
+mod QuietLemmas

@@ -1,0 +1,4 @@
+pub mod Walking
+pub mod Wholes
+pub mod Parts
+pub mod SlotNames

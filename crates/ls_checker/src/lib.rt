@@ -1,0 +1,24 @@
+//! Whether a world stands for a vault: the definitions of standing, decided by a plain program.
+#![tactic(auto)]
+
+mod arming;
+mod checks;
+mod escrow;
+mod files;
+mod foreign;
+mod named_slots;
+mod names;
+mod number;
+mod opening;
+mod place;
+mod quiet;
+mod settings;
+mod standing;
+mod user;
+mod user_files;
+mod walk;
+
+pub use foreign::Foreign;
+pub use opening::first_foreign;
+pub use quiet::is_quiet;
+pub use standing::{holds, stands_for};
