@@ -1,0 +1,134 @@
+//! Settings over a board in memory: what is loaded, looked at and committed.
+ghost use Rattle.std.specs.Prelude.{◌≡◌, IsTrue, IfOk, OnOk};
+ghost use Rattle.ls_board.specs.Acts.{Sight};
+ghost use Rattle.ls_settings.specs.Loaded.{IsReady, AreUntouched};
+
+use ls_board::{Action, Board, World};
+use ls_bytes::{Bytes, Memory, Name};
+use ls_memboard::{FailureList, MemBoard};
+use ls_record::Record;
+use ls_settings::Settings;
+use std::alloc::Global;
+use std::test::Fail;
+
+/// The record of these bytes.
+pub fn record_of(alloc: Global, digits: &str) -> Result<Record, Fail> {
+    let bytes = hex::decode(alloc, digits)?;
+    Ok(Record::parse(alloc, &bytes).ok().ok_or("record")?)
+}
+
+/// Puts a file of 4,096 bytes that begins with these; none for no digits.
+fn put_settings(
+    alloc: Global,
+    world: &mut World,
+    name: &[u8],
+    digits: &[&str],
+) -> Result<(), Fail> {
+    let mut bytes = Vec::new(alloc);
+    for part in digits {
+        bytes.extend_from_slice(&hex::decode(alloc, *part)?)?;
+    }
+    if bytes.is_empty() {
+        return Ok(());
+    }
+    bytes.resize(4096, 0)?;
+    Ok(world.put_file(&Name::of(alloc, name)?, &bytes)?)
+}
+
+/// A board on this world, in which no call fails.
+pub fn board_on(alloc: Global, world: World) -> Result<MemBoard, Fail> {
+    if world.slots.len() > 256 {
+        return Err(Fail::from("too many slots"));
+    }
+    Ok(MemBoard::new(alloc, world, FailureList::new(alloc))?)
+}
+
+/// A board with these two settings files.
+pub fn board_with(alloc: Global, first: &[&str], second: &[&str]) -> Result<MemBoard, Fail> {
+    let mut world = World::blank(alloc, 0)?;
+    put_settings(alloc, &mut world, b"settings.0", first)?;
+    put_settings(alloc, &mut world, b"settings.1", second)?;
+    board_on(alloc, world)
+}
+
+/// Puts all changes of files on the disk.
+fn sync<B: Board>(alloc: Global, board: &mut B) -> Result<(), Fail>
+    ensures told { (B.sight board.new).told ≡ (B.sight board.old).told }
+    ensures untouched { IsTrue (B.sight board.old).told
+        → OnOk result (AreUntouched (B.sight board.new).world) }
+{
+    board.ready(alloc, 1, 0)?;
+    let _ = board.act(&Action::Sync, &mut Vec::new(alloc))?;
+    Ok(())
+}
+
+/// Opens the settings.
+pub fn open<B: Board>(alloc: Global, board: &mut B) -> Result<Settings, Fail>
+    ensures told { (B.sight board.new).told ≡ (B.sight board.old).told }
+    ensures ready { IsTrue (B.sight board.old).told
+        → IfOk result (IsReady (B.sight board.new).world) }
+{
+    sync(alloc, board)?;
+    Ok(Settings::load(alloc, board).ok().ok_or("load")?)
+}
+
+/// Makes a prepared commit.
+fn run<B: Board>(
+    alloc: Global,
+    board: &mut B,
+    settings: &mut Settings,
+    next: Record,
+) -> Result<(), Fail>
+    requires ready { IsTrue (B.sight board.old).told
+        → IsReady (B.sight board.old).world settings.old }
+{
+    let plan = settings.prepare(alloc, next)?;
+    let (actions, bytes) = plan.weight();
+    board.ready(alloc, actions, bytes)?;
+    let _ = settings.commit(board, plan)?;
+    Ok(())
+}
+
+/// Opens the settings, and commits a record.
+pub fn commit<B: Board>(alloc: Global, board: &mut B, next: Record) -> Result<(), Fail> {
+    let mut settings = open(alloc, board)?;
+    run(alloc, board, &mut settings, next)
+}
+
+/// The bytes of the record that is loaded.
+pub fn loaded<B: Board>(alloc: Global, board: &mut B) -> Result<Bytes, Fail> {
+    let settings = Settings::load(alloc, board).ok().ok_or("load")?;
+    Ok(settings.record().print(alloc)?)
+}
+
+/// How many users are seen at a look.
+fn users_of<B: Board>(alloc: Global, board: &mut B) -> Result<u32, Fail> {
+    let record = Settings::look(alloc, board).ok().ok_or("look")?;
+    Ok(record.users.len())
+}
+
+fn file_count(board: &MemBoard) -> Result<u32, Memory> {
+    let world = board.world()?;
+    Ok(world.files.len())
+}
+
+/// How many users a look sees, and how many files there are behind it and behind loading.
+fn looked(alloc: Global, board: &mut MemBoard) -> Result<(u32, u32, u32), Fail> {
+    let users = users_of(alloc, board)?;
+    let before = file_count(board)?;
+    let _ = loaded(alloc, board)?;
+    let after = file_count(board)?;
+    Ok((users, before, after))
+}
+
+/// The same of an empty directory.
+fn begun(alloc: Global) -> Result<(u32, u32, u32), Fail> {
+    let mut board = board_with(alloc, &[], &[])?;
+    looked(alloc, &mut board)
+}
+
+#[test]
+fn a_look_makes_no_file_and_loading_makes_two(rt: HostRuntime) -> Result<(), Fail> {
+    assert_eq!(rt; begun(rt.alloc())?, (0, 0, 2));
+    Ok(())
+}
