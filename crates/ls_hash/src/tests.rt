@@ -18,36 +18,44 @@ fn sha256_of_abc(rt: HostRuntime) -> Result<(), Fail> {
     Ok(())
 }
 
+/// A message and its code.
+struct Coded {
+    key: &'static str,
+    message: &'static str,
+    mac: &'static str,
+}
+
+static CODED: [Coded; 5] = [
+    Coded {
+        key: "4a656665",
+        message: "7768617420646f2079612077616e7420666f72206e6f7468696e673f",
+        mac: "5bdcc146bf60754e6a042426089575c75a003f089d2739839dec58b964ec3843",
+    },
+    Coded {
+        key: "aaaaaaaaaaaaaaaaaaaaaaaaaaaaaaaaaaaaaaaaaaaaaaaaaaaaaaaaaaaaaaaaaaaaaaaaaaaaaaaaaaaaaaaaaaaaaaaaaaaaaaaaaaaaaaaaaaaaaaaaaaaaaaaaaaaaaaaaaaaaaaaaaaaaaaaaaaaaaaaaaaaaaaaaaaaaaaaaaaaaaaaaaaaaaaaaaaaaaaaaaaaaaaaaaaaaaaaaaaaaaaaaaaaaaaaaaaaaaaaaaaaaaaaaaaaaaaaaaaaaaa",
+        message: "54657374205573696e67204c6172676572205468616e20426c6f636b2d53697a65204b6579202d2048617368204b6579204669727374",
+        mac: "60e431591ee0b67f0d8a26aacbf5b77f8e0bc6213728c5140546040f0ee37f54",
+    },
+    Coded {
+        key: "",
+        message: "",
+        mac: "b613679a0814d9ec772f95d778c35fc5ff1697c493715653c6c712144292c5ad",
+    },
+    Coded {
+        key: "1b7944bb7cb90add8b0d8e7bfbdde7dde9ffbbf6cf29fa9dd9d6c5a5db02e3aa95fca12ef4b74fb065ecb366109ea69f438a28616e6afa1f62a421ea650b5e75",
+        message: "14f865dcf0d481fdd577c8107ccdab9fff08da5da3c6b831935b55661662990abbd93b16ffc3acac8c0394cff82d7b4cb004c188f7546a98518a209561718964",
+        mac: "08fd56a2907e3465c24c8ad213d6a73aefc626f624fefd57ab44ada59085b23a",
+    },
+    Coded {
+        key: "73f11b5844411119e6edef5a2deb4ea506831c90934f722a9ac0ccf7ad0e37177a7008d85c069f7401c00c39429e0db4a03423409f0a9afff3cd57bae332a22483",
+        message: "2075c116a0c497e93a74aaada6aeddf6b7a7d87d0b214ee57a8e1c5011ba02d78034396c0a9b408503c26ef333d9e661c4f685dd058da4f99e231dedb7a0ef7693",
+        mac: "026d5af9f8c8cac42a038e14c88d5c0e4c223ba825cf9e5a05f246a603a2fc84",
+    },
+];
+
 #[test]
 fn hmac256_of_short_and_long_keys(rt: HostRuntime) -> Result<(), Fail> {
-    let rows = [
-        (
-            "4a656665",
-            "7768617420646f2079612077616e7420666f72206e6f7468696e673f",
-            "5bdcc146bf60754e6a042426089575c75a003f089d2739839dec58b964ec3843",
-        ),
-        (
-            "aaaaaaaaaaaaaaaaaaaaaaaaaaaaaaaaaaaaaaaaaaaaaaaaaaaaaaaaaaaaaaaaaaaaaaaaaaaaaaaaaaaaaaaaaaaaaaaaaaaaaaaaaaaaaaaaaaaaaaaaaaaaaaaaaaaaaaaaaaaaaaaaaaaaaaaaaaaaaaaaaaaaaaaaaaaaaaaaaaaaaaaaaaaaaaaaaaaaaaaaaaaaaaaaaaaaaaaaaaaaaaaaaaaaaaaaaaaaaaaaaaaaaaaaaaaaaaaaaaaaaa",
-            "54657374205573696e67204c6172676572205468616e20426c6f636b2d53697a65204b6579202d2048617368204b6579204669727374",
-            "60e431591ee0b67f0d8a26aacbf5b77f8e0bc6213728c5140546040f0ee37f54",
-        ),
-        (
-            "",
-            "",
-            "b613679a0814d9ec772f95d778c35fc5ff1697c493715653c6c712144292c5ad",
-        ),
-        (
-            "1b7944bb7cb90add8b0d8e7bfbdde7dde9ffbbf6cf29fa9dd9d6c5a5db02e3aa95fca12ef4b74fb065ecb366109ea69f438a28616e6afa1f62a421ea650b5e75",
-            "14f865dcf0d481fdd577c8107ccdab9fff08da5da3c6b831935b55661662990abbd93b16ffc3acac8c0394cff82d7b4cb004c188f7546a98518a209561718964",
-            "08fd56a2907e3465c24c8ad213d6a73aefc626f624fefd57ab44ada59085b23a",
-        ),
-        (
-            "73f11b5844411119e6edef5a2deb4ea506831c90934f722a9ac0ccf7ad0e37177a7008d85c069f7401c00c39429e0db4a03423409f0a9afff3cd57bae332a22483",
-            "2075c116a0c497e93a74aaada6aeddf6b7a7d87d0b214ee57a8e1c5011ba02d78034396c0a9b408503c26ef333d9e661c4f685dd058da4f99e231dedb7a0ef7693",
-            "026d5af9f8c8cac42a038e14c88d5c0e4c223ba825cf9e5a05f246a603a2fc84",
-        ),
-    ];
-    for (key, message, mac) in rows {
+    for Coded { key, message, mac } in CODED.iter() {
         let key = hex::decode(rt.alloc(), key)?;
         let message = hex::decode(rt.alloc(), message)?;
         assert!(rt;
