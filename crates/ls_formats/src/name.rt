@@ -2,7 +2,7 @@
 ghost use Rattle.std.specs.Prelude.{◌≡◌, ◌≢◌, ◌≤◌, MatchBool, IfOk, length};
 ghost use Rattle.ls_formats.specs.Faults.{Parses, HasFault, Spells};
 ghost use Rattle.ls_formats.specs.Format.{first_fault};
-ghost use Rattle.ls_formats.specs.PartNames.{PartOf, IsPartOf, part_text, settings_text, part_name_text};
+ghost use Rattle.ls_formats.specs.PartNames.{PartOf, IsPartOf, part_text, part_name_text};
 ghost use Rattle.ls_formats.specs.declared.part.FilePart.{FilePart as Parts};
 
 use crate::fault::FormatFault;
@@ -59,19 +59,9 @@ impl FileName {
         ensures kept { IsFileName self.now }
     {
         match self {
-            FileName::Settings(side) => Bytes::of(alloc, settings_text(*side)),
+            FileName::Settings(side) => Bytes::of(alloc, side.file_name()),
             FileName::Protector(name) => print_part_name(alloc, name),
         }
-    }
-}
-
-/// The name of a settings file.
-fn settings_text(side: Side) -> &'static [u8]
-    ensures text { result.now ≡ settings_text side }
-{
-    match side {
-        Side::First => b"settings.0",
-        Side::Second => b"settings.1",
     }
 }
 

@@ -9,3 +9,17 @@ pub enum Side {
     /// `settings.1`
     Second,
 }
+
+impl Side {
+    ghost use Rattle.ls_formats.specs.PartNames.{settings_text};
+
+    /// The name of the file.
+    pub fn file_name(self) -> &'static [u8]
+        ensures text { result.now ≡ settings_text self }
+    {
+        match self {
+            Side::First => b"settings.0",
+            Side::Second => b"settings.1",
+        }
+    }
+}

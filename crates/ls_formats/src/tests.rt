@@ -19,56 +19,59 @@ fn edited(
     Ok(bytes)
 }
 
+/// A place in no file.
 const NONE: usize = 99_999;
+
+// A text that is no name, and the place of its first byte that no name has there.
+static BAD_NAMES: [(&str, u32); 41] = [
+    ("", 0),
+    ("x", 0),
+    ("s", 1),
+    ("S", 0),
+    ("setting", 7),
+    ("settings.", 9),
+    ("settings.2", 9),
+    ("settings.00", 10),
+    ("settings.0\n", 10),
+    ("Settings.0", 0),
+    ("0", 1),
+    (" 0000000.0000000000000000.e0", 0),
+    ("0000000g", 7),
+    ("0000000A.0000000000000000.handle", 7),
+    ("00000000", 8),
+    ("000000000.0000000000000000.e0", 8),
+    ("00000000-", 8),
+    ("00000000.", 9),
+    ("00000000.g", 9),
+    ("00000000.000000000000000A.pwd", 24),
+    ("00000000.000000000000000", 24),
+    ("00000000.00000000000000.e0", 23),
+    ("00000000.0000000000000000", 25),
+    ("00000000.00000000000000000.e0", 25),
+    ("00000000.0000000000000000.", 26),
+    ("00000000.0000000000000000.spblob", 26),
+    ("00000000.0000000000000000.hand", 30),
+    ("00000000.0000000000000000.handles", 32),
+    ("00000000.0000000000000000.e1", 27),
+    ("00000000.0000000000000000.e0x", 28),
+    ("00000000.0000000000000000.p", 27),
+    ("00000000.0000000000000000.pwd", 27),
+    ("00000000.0000000000000000.resumed", 32),
+    ("00000000.0000000000000001.handle", 26),
+    ("00000000.0000000000000001.PWD", 26),
+    ("00000000.0000000000000001.e0", 26),
+    ("00000000.0000000000000001.p1", 27),
+    ("00000000.0000000000000001.sx", 27),
+    ("00000000.0000000000000001.spblo", 31),
+    ("00000000.0000000000000001.pwdx", 29),
+    ("00000000.0000000000000001.metric", 32),
+];
 
 #[test]
 fn a_name_is_refused_at_the_first_byte_that_no_name_has(rt: HostRuntime) {
-    let rows = [
-        ("", 0),
-        ("x", 0),
-        ("s", 1),
-        ("S", 0),
-        ("setting", 7),
-        ("settings.", 9),
-        ("settings.2", 9),
-        ("settings.00", 10),
-        ("settings.0\n", 10),
-        ("Settings.0", 0),
-        ("0", 1),
-        (" 0000000.0000000000000000.e0", 0),
-        ("0000000g", 7),
-        ("0000000A.0000000000000000.handle", 7),
-        ("00000000", 8),
-        ("000000000.0000000000000000.e0", 8),
-        ("00000000-", 8),
-        ("00000000.", 9),
-        ("00000000.g", 9),
-        ("00000000.000000000000000A.pwd", 24),
-        ("00000000.000000000000000", 24),
-        ("00000000.00000000000000.e0", 23),
-        ("00000000.0000000000000000", 25),
-        ("00000000.00000000000000000.e0", 25),
-        ("00000000.0000000000000000.", 26),
-        ("00000000.0000000000000000.spblob", 26),
-        ("00000000.0000000000000000.hand", 30),
-        ("00000000.0000000000000000.handles", 32),
-        ("00000000.0000000000000000.e1", 27),
-        ("00000000.0000000000000000.e0x", 28),
-        ("00000000.0000000000000000.p", 27),
-        ("00000000.0000000000000000.pwd", 27),
-        ("00000000.0000000000000000.resumed", 32),
-        ("00000000.0000000000000001.handle", 26),
-        ("00000000.0000000000000001.PWD", 26),
-        ("00000000.0000000000000001.e0", 26),
-        ("00000000.0000000000000001.p1", 27),
-        ("00000000.0000000000000001.sx", 27),
-        ("00000000.0000000000000001.spblo", 31),
-        ("00000000.0000000000000001.pwdx", 29),
-        ("00000000.0000000000000001.metric", 32),
-    ];
-    for (text, at) in rows {
+    for (text, at) in BAD_NAMES.iter() {
         let fault = FileName::parse(text.as_bytes()).err();
-        assert_eq!(rt; fault, Some(FormatFault::Bad { at }), "{text}");
+        assert_eq!(rt; fault, Some(FormatFault::Bad { at: *at }), "{text}");
     }
 }
 
@@ -110,57 +113,70 @@ fn fault_of(
     }
 }
 
+// A cost that no handle follows.
+static PLAIN_COST: [u8; 21] = [
+    3, 11, 3, 1, 9, 9, 9, 9, 9, 9, 9, 9, 9, 9, 9, 9, 9, 9, 9, 9, 0,
+];
+
+// The front of a cost that a handle follows.
+static HANDLED_COST: [u8; 21] = [
+    4, 14, 4, 3, 9, 9, 9, 9, 9, 9, 9, 9, 9, 9, 9, 9, 9, 9, 9, 9, 49,
+];
+
+// Each row of the tables of edits has the length, a place and the byte that is put there, and the
+// place of the first wrong byte.
+
+// Edits of `PLAIN_COST`.
+static PLAIN_COSTS: [(usize, usize, u8, u32); 27] = [
+    (0, NONE, 0, 0),
+    (1, NONE, 0, 1),
+    (2, NONE, 0, 2),
+    (3, NONE, 0, 3),
+    (4, NONE, 0, 4),
+    (5, NONE, 0, 5),
+    (20, NONE, 0, 20),
+    (22, NONE, 0, 21),
+    (70, NONE, 0, 21),
+    (21, 0, 0, 0),
+    (21, 0, 2, 0),
+    (21, 0, 5, 0),
+    (21, 0, 255, 0),
+    (21, 1, 0, 1),
+    (21, 1, 15, 1),
+    (21, 1, 255, 1),
+    (21, 2, 5, 2),
+    (21, 2, 255, 2),
+    (21, 3, 4, 3),
+    (21, 3, 255, 3),
+    (21, 20, 1, 20),
+    (21, 20, 48, 20),
+    (21, 20, 50, 20),
+    (21, 20, 255, 20),
+    (21, 20, 49, 21),
+    (3, 0, 2, 0),
+    (3, 3, 4, 3),
+];
+
+// Edits of `HANDLED_COST`.
+static HANDLED_COSTS: [(usize, usize, u8, u32); 7] = [
+    (69, NONE, 0, 69),
+    (71, NONE, 0, 70),
+    (21, NONE, 0, 21),
+    (22, NONE, 0, 22),
+    (45, NONE, 0, 45),
+    (100, NONE, 0, 70),
+    (70, 1, 15, 1),
+];
+
 #[test]
 fn a_cost_is_refused_at_its_first_wrong_byte(rt: HostRuntime) -> Result<(), Fail> {
-    let pwd: [u8; 21] = [
-        3, 11, 3, 1, 9, 9, 9, 9, 9, 9, 9, 9, 9, 9, 9, 9, 9, 9, 9, 9, 0,
-    ];
-    let handled: [u8; 21] = [
-        4, 14, 4, 3, 9, 9, 9, 9, 9, 9, 9, 9, 9, 9, 9, 9, 9, 9, 9, 9, 49,
-    ];
-    for (len, at, byte, fault) in [
-        (0, NONE, 0, 0),
-        (1, NONE, 0, 1),
-        (2, NONE, 0, 2),
-        (3, NONE, 0, 3),
-        (4, NONE, 0, 4),
-        (5, NONE, 0, 5),
-        (20, NONE, 0, 20),
-        (22, NONE, 0, 21),
-        (70, NONE, 0, 21),
-        (21, 0, 0, 0),
-        (21, 0, 2, 0),
-        (21, 0, 5, 0),
-        (21, 0, 255, 0),
-        (21, 1, 0, 1),
-        (21, 1, 15, 1),
-        (21, 1, 255, 1),
-        (21, 2, 5, 2),
-        (21, 2, 255, 2),
-        (21, 3, 4, 3),
-        (21, 3, 255, 3),
-        (21, 20, 1, 20),
-        (21, 20, 48, 20),
-        (21, 20, 50, 20),
-        (21, 20, 255, 20),
-        (21, 20, 49, 21),
-        (3, 0, 2, 0),
-        (3, 3, 4, 3),
-    ] {
-        let found = fault_of(rt.alloc(), FilePart::Pwd, &pwd, (len, at, byte))?;
-        assert_eq!(rt; found, Some(fault), "{len} {at} {byte}");
+    for (len, at, byte, fault) in PLAIN_COSTS.iter() {
+        let found = fault_of(rt.alloc(), FilePart::Pwd, &PLAIN_COST, (*len, *at, *byte))?;
+        assert_eq!(rt; found, Some(*fault), "{len} {at} {byte}");
     }
-    for (len, at, byte, fault) in [
-        (69, NONE, 0, 69),
-        (71, NONE, 0, 70),
-        (21, NONE, 0, 21),
-        (22, NONE, 0, 22),
-        (45, NONE, 0, 45),
-        (100, NONE, 0, 70),
-        (70, 1, 15, 1),
-    ] {
-        let found = fault_of(rt.alloc(), FilePart::Pwd, &handled, (len, at, byte))?;
-        assert_eq!(rt; found, Some(fault), "{len} {at} {byte}");
+    for (len, at, byte, fault) in HANDLED_COSTS.iter() {
+        let found = fault_of(rt.alloc(), FilePart::Pwd, &HANDLED_COST, (*len, *at, *byte))?;
+        assert_eq!(rt; found, Some(*fault), "{len} {at} {byte}");
     }
     Ok(())
 }
@@ -230,55 +246,64 @@ fn a_secdis_is_plain_or_sealed(rt: HostRuntime) -> Result<(), Fail> {
     Ok(())
 }
 
+// Opened metrics: a PIN, and what is counted of it.
+static METRICS: [u8; 10] = [3, 4, 0, 0, 0, 4, 0, 4, 0, 16];
+
+// Edits of `METRICS`.
+static EDITED_METRICS: [(usize, usize, u8, u32); 30] = [
+    (0, NONE, 0, 0),
+    (1, NONE, 0, 1),
+    (2, NONE, 0, 2),
+    (3, NONE, 0, 3),
+    (4, NONE, 0, 4),
+    (5, NONE, 0, 5),
+    (6, NONE, 0, 6),
+    (7, NONE, 0, 7),
+    (8, NONE, 0, 8),
+    (9, NONE, 0, 9),
+    (11, NONE, 0, 10),
+    (38, NONE, 0, 10),
+    (10, 0, 0, 0),
+    (10, 0, 2, 0),
+    (10, 0, 5, 0),
+    (10, 0, 255, 0),
+    (10, 1, 17, 1),
+    (10, 2, 17, 2),
+    (10, 3, 17, 3),
+    (10, 4, 17, 4),
+    (10, 5, 17, 5),
+    (10, 6, 17, 6),
+    (10, 7, 17, 7),
+    (10, 8, 17, 8),
+    (10, 9, 17, 9),
+    (10, 1, 255, 1),
+    (10, 9, 255, 9),
+    (9, 8, 17, 8),
+    (11, 9, 17, 9),
+    (5, 0, 2, 0),
+];
+
 #[test]
 fn opened_metrics_are_a_kind_and_nine_counts(rt: HostRuntime) -> Result<(), Fail> {
-    let base: [u8; 10] = [3, 4, 0, 0, 0, 4, 0, 4, 0, 16];
-    let rows = [
-        (0, NONE, 0, 0),
-        (1, NONE, 0, 1),
-        (2, NONE, 0, 2),
-        (3, NONE, 0, 3),
-        (4, NONE, 0, 4),
-        (5, NONE, 0, 5),
-        (6, NONE, 0, 6),
-        (7, NONE, 0, 7),
-        (8, NONE, 0, 8),
-        (9, NONE, 0, 9),
-        (11, NONE, 0, 10),
-        (38, NONE, 0, 10),
-        (10, 0, 0, 0),
-        (10, 0, 2, 0),
-        (10, 0, 5, 0),
-        (10, 0, 255, 0),
-        (10, 1, 17, 1),
-        (10, 2, 17, 2),
-        (10, 3, 17, 3),
-        (10, 4, 17, 4),
-        (10, 5, 17, 5),
-        (10, 6, 17, 6),
-        (10, 7, 17, 7),
-        (10, 8, 17, 8),
-        (10, 9, 17, 9),
-        (10, 1, 255, 1),
-        (10, 9, 255, 9),
-        (9, 8, 17, 8),
-        (11, 9, 17, 9),
-        (5, 0, 2, 0),
-    ];
-    for (len, at, byte, fault) in rows {
-        let bytes = edited(rt.alloc(), &base, len, at, byte)?;
+    for (len, at, byte, fault) in EDITED_METRICS.iter() {
+        let bytes = edited(rt.alloc(), &METRICS, *len, *at, *byte)?;
         let found = MetricsFile::parse(&bytes).err();
         assert_eq!(rt;
             found,
-            Some(FormatFault::Bad { at: fault }),
+            Some(FormatFault::Bad { at: *fault }),
             "{len} {at} {byte}"
         );
     }
-    let file = MetricsFile::parse(&base).ok().ok_or("metrics")?;
+    Ok(())
+}
+
+#[test]
+fn opened_metrics_are_read_and_printed(rt: HostRuntime) -> Result<(), Fail> {
+    let file = MetricsFile::parse(&METRICS).ok().ok_or("metrics")?;
     assert_eq!(rt; file.metrics.kind, Kind::Pin);
     assert_eq!(rt; file.metrics.run, 16);
     let printed = file.print(rt.alloc()).ok().ok_or("memory")?;
-    assert_eq!(rt; printed.as_slice(), base.as_slice());
+    assert_eq!(rt; printed.as_slice(), METRICS.as_slice());
     Ok(())
 }
 

@@ -1,56 +1,21 @@
 //! Whether a record names a file, a key or a Gatekeeper record.
-ghost use Rattle.std.specs.Prelude.{◌≡◌, ◌==◌, ◌&&◌, if◌then◌else◌, is_some, MatchBool};
+ghost use Rattle.std.specs.Prelude.{◌≡◌, ◌==◌, ◌&&◌, is_some, MatchBool};
 ghost use Rattle.std.specs.List.{list_any};
-ghost use Rattle.ls_formats.specs.declared.part.FilePart.TheVariants.{Weaver, Secdis};
 ghost use Rattle.ls_record.specs.Rows.{has};
-ghost use Rattle.ls_naming.specs.Named.{is_armed, has_credential, has_secure};
 ghost use Rattle.ls_naming.specs.Named.{NamesFile, NamesKey, NamesEnrolled};
 ghost use Rattle.ls_naming.specs.Membership.{part_number, same_part, is_user_part, is_credential_part};
 ghost use Rattle.ls_naming.specs.Membership.{is_token_part, has_file, row_names, has_key, has_enrolled};
 ghost use Rattle.ls_naming.specs.Membership.{file_is_named, key_is_named, enrolled_is_named};
 
+use crate::rows::{has_credential, has_secure, is_armed, kept_part};
 use ls_credential::Kind;
 use ls_formats::{FilePart, PartName};
 use ls_record::{Armed, Record, UserRow};
-
-// ---- numbers
 
 fn has(ids: &[u64], id: u64) -> bool
     ensures same { result ≡ has ids.now id }
 {
     ids.iter().any(|i| *i == id)
-}
-
-fn has_user(users: &[u32], user: u32) -> bool
-    ensures same { result ≡ has users.now user }
-{
-    users.iter().any(|u| *u == user)
-}
-
-/// Whether a user of this kind has a credential.
-fn has_credential(kind: Kind) -> bool
-    ensures same { result ≡ has_credential kind }
-{
-    match kind {
-        Kind::Empty => false,
-        Kind::Pattern | Kind::Pin | Kind::Password => true,
-    }
-}
-
-/// Whether a user has a secure id.
-fn has_secure(row: &UserRow) -> bool
-    ensures same { result ≡ has_secure row.now }
-{
-    row.secure != 0
-}
-
-fn is_armed(armed: &Option<Armed>, user: u32) -> bool
-    ensures same { result ≡ is_armed armed.now user }
-{
-    match armed {
-        None => false,
-        Some(armed) => has_user(armed.users.as_slice(), user),
-    }
 }
 
 // ---- parts
@@ -83,18 +48,6 @@ fn is_user_part(armed: &Option<Armed>, row: &UserRow, part: FilePart) -> bool
     (has_secure(row) && same_part(FilePart::Handle, part))
         || ((row.escrow && (same_part(FilePart::E0, part) || same_part(FilePart::P1, part)))
             || (is_armed(armed, row.user) && same_part(FilePart::Resume, part)))
-}
-
-/// The part that keeps what stands behind a credential: a slot with Weaver, and a random file
-/// without it.
-fn kept_part(weaver: bool) -> FilePart
-    ensures same { result ≡ (if weaver then Weaver else Secdis) }
-{
-    if weaver {
-        FilePart::Weaver
-    } else {
-        FilePart::Secdis
-    }
 }
 
 fn is_credential_part(weaver: bool, kind: Kind, part: FilePart) -> bool

@@ -1,5 +1,6 @@
 use super::*;
-use ls_formats::FileName;
+use ls_bytes::Memory;
+use ls_formats::{FileName, PartName};
 use ls_record::Record;
 use std::alloc::Global;
 use std::test::*;
@@ -94,6 +95,93 @@ fn a_record_names_keys_and_enrolled_ids(rt: HostRuntime) -> Result<(), Fail> {
         assert_eq!(rt; names_enrolled(&record, true, id), with, "{id}");
         assert_eq!(rt; names_enrolled(&record, false, id), without, "{id}");
         assert!(rt; !names_key(&none, id), "{id}");
+    }
+    Ok(())
+}
+
+// The files of user 0, with Weaver and without it.
+static FILES: [(bool, &[&str]); 2] = [
+    (
+        true,
+        &[
+            "00000000.0000000000000000.handle",
+            "00000000.0000000000000000.e0",
+            "00000000.0000000000000000.p1",
+            "00000000.0000000000000000.resume",
+            "00000000.0000000000000002.spblob",
+            "00000000.0000000000000002.pwd",
+            "00000000.0000000000000002.weaver",
+            "00000000.0000000000000002.metrics",
+            "00000000.0000000000000005.spblob",
+            "00000000.0000000000000005.secdis",
+            "00000000.0000000000000005.weaver",
+            "00000000.0000000000000009.spblob",
+            "00000000.0000000000000009.secdis",
+            "00000000.0000000000000009.weaver",
+        ],
+    ),
+    (
+        false,
+        &[
+            "00000000.0000000000000000.handle",
+            "00000000.0000000000000000.e0",
+            "00000000.0000000000000000.p1",
+            "00000000.0000000000000000.resume",
+            "00000000.0000000000000002.spblob",
+            "00000000.0000000000000002.pwd",
+            "00000000.0000000000000002.secdis",
+            "00000000.0000000000000002.metrics",
+            "00000000.0000000000000005.spblob",
+            "00000000.0000000000000005.secdis",
+            "00000000.0000000000000009.spblob",
+            "00000000.0000000000000009.secdis",
+        ],
+    ),
+];
+
+/// Whether the names have these texts, in order.
+fn have_texts(alloc: Global, names: &[PartName], texts: &[&str]) -> Result<bool, Memory> {
+    for (name, text) in names.iter().zip(texts.iter()) {
+        let printed = FileName::Protector(*name).print(alloc)?;
+        if printed.as_slice() != text.as_bytes() {
+            return Ok(false);
+        }
+    }
+    Ok(names.len() == texts.len())
+}
+
+/// Whether these are the texts of the names of the first row's files, in order.
+fn first_has(alloc: Global, record: &Record, weaver: bool, texts: &[&str]) -> Result<bool, Memory> {
+    match record.users.as_slice() {
+        [] => Ok(false),
+        [row, ..] => {
+            let names = row_files(alloc, weaver, &record.armed, row)?;
+            have_texts(alloc, names.as_slice(), texts)
+        }
+    }
+}
+
+#[test]
+fn a_row_names_its_files_in_order(rt: HostRuntime) -> Result<(), Fail> {
+    let record = record_of(rt.alloc(), THREE)?;
+    for (weaver, texts) in FILES.iter() {
+        assert!(rt; first_has(rt.alloc(), &record, *weaver, texts)?, "{weaver}");
+    }
+    Ok(())
+}
+
+#[test]
+fn a_row_says_what_its_user_has(rt: HostRuntime) -> Result<(), Fail> {
+    let record = record_of(rt.alloc(), THREE)?;
+    let wanted = [
+        (true, true, true),
+        (true, true, false),
+        (false, false, false),
+    ];
+    for (row, (credential, secure, armed)) in record.users.as_slice().iter().zip(wanted) {
+        assert_eq!(rt; has_credential(row.kind), credential);
+        assert_eq!(rt; has_secure(row), secure);
+        assert_eq!(rt; is_armed(&record.armed, row.user), armed);
     }
     Ok(())
 }
