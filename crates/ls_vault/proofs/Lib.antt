@@ -1,6 +1,5 @@
 mod FreshLemmas
 mod InsertLemmas
-mod NoiseLemmas
 mod PendingLemmas
 pub mod ScriptLemmas
 mod UserLemmas

@@ -11,6 +11,7 @@ use Rattle.ls_script.specs.declared.command.Command.{Command}
 use Rattle.ls_script.specs.declared.command.Command.TheVariants as command
 use Rattle.ls_script.specs.declared.reply.Reply.{Reply}
 use Rattle.ls_script.specs.declared.script_line.ScriptLine.{ScriptLine}
+use Rattle.ls_tape.specs.Tape.{next_moment, later_moments, drawn as drawn_bytes}
 use Rattle.ls_vault.specs.Drawn.{drawn_len}
 use Rattle.ls_vault.specs.Histories.{Event, command as served}
 use Rattle.ls_vault.specs.Kinds.{same_kind}
@@ -57,21 +58,6 @@ pub record Stage : Type 0 where
   pub moments : List ℕ
   pub noise : List ℕ
 
--- the next moment, 0 where there is none
-abbrev pub first_moment : List ℕ → ℕ
-first_moment [] = 0
-first_moment (moment ∷ moments) = moment
-
--- the moments after it; the last one stays
-abbrev pub later_moments : List ℕ → List ℕ
-later_moments [] = []
-later_moments (moment ∷ []) = moment ∷ []
-later_moments (moment ∷ next ∷ moments) = next ∷ moments
-
--- the next bytes of the noise, zeros behind its end
-abbrev pub next_noise : ℕ → List ℕ → List ℕ
-next_noise len noise = take len (noise ++ replicate len 0)
-
 -- the user is there, and its credential is of this kind
 abbrev pub has_kind : Option User → Kind → Bool
 has_kind None kind = false
@@ -104,11 +90,11 @@ answered c moment drawn outcome = record {
 
 -- the moment of a command, 0 where it takes none
 abbrev pub moment_for : Stage → Command → ℕ
-moment_for at c = if takes_moment at.state c then first_moment at.moments else 0
+moment_for at c = if takes_moment at.state c then next_moment at.moments else 0
 
 -- the bytes that it draws
 abbrev pub drawn_for : ℕ → Stage → Command → List ℕ
-drawn_for slots at c = next_noise (drawn_len slots at.state c (moment_for at c)) at.noise
+drawn_for slots at c = drawn_bytes at.noise (drawn_len slots at.state c (moment_for at c))
 
 abbrev pub entry_of : ℕ → Stage → Command → Entry
 entry_of slots at c =
