@@ -66,6 +66,10 @@ pub planned_push : (actions : List Action) (a : Action) → AllPlanned actions �
 planned_push [] a all planned = (planned, tt)
 planned_push (x ∷ actions) a all planned = (all.0, planned_push actions a all.1 planned)
 
+pub planned_append : (actions more : List Action) → AllPlanned actions → AllPlanned more → AllPlanned (actions ++ more)
+planned_append [] more all rest = rest
+planned_append (x ∷ actions) more all rest = (all.0, planned_append actions more all.1 rest)
+
 -- what holds of a plan, of its part that is left
 apply_rest : (w : World) (done rest : List Action) → AllApply w (done ++ rest) → AllApply (after_all w done) rest
 apply_rest w [] rest all = all

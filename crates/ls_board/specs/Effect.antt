@@ -20,7 +20,7 @@ use Rattle.ls_board.specs.Order.{byte_cmp, without}
 use Rattle.ls_board.specs.Listing.{listing, key_fields, IsListing, IsFields}
 use Rattle.ls_board.specs.Gatekeeper.{signed, no_fails, verified, verify_answer}
 use Rattle.ls_board.specs.Keys.{IsOpening}
-use Rattle.ls_board.specs.Noise.{drawn, next_moment, later_moments}
+use Rattle.ls_tape.specs.Tape.{drawn, next_moment, later_moments}
 
 -- ---- files
 

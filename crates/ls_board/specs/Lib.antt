@@ -2,9 +2,9 @@ pub mod Acts
 pub mod Effect
 pub mod Gatekeeper
 pub mod Images
+pub mod Keeping
 pub mod Keys
 pub mod Listing
-pub mod Noise
 pub mod Order
 pub mod Places
 pub mod Planned

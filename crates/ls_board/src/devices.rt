@@ -50,6 +50,8 @@ impl Model for GkTable {
 }
 
 impl GkTable {
+    ghost use Rattle.ls_board.specs.Gatekeeper.{record_at};
+
     /// No record.
     pub fn new(alloc: Global) -> GkTable
         ensures empty { result ≡ [] }
@@ -97,6 +99,13 @@ impl GkTable {
         }
     }
 
+    /// The failures of this id, if it has a record.
+    pub fn find(&self, sid: u64) -> Option<Counter>
+        ensures found { result ≡ record_at self.now sid }
+    {
+        self.table.find(sid)
+    }
+
     /// Adds a record at the end.
     pub fn push(&mut self, row: GkRow) -> Result<(), Memory>
         requires ascending { IsSorted nat_cmp
@@ -137,6 +146,8 @@ impl Model for KeyTable {
 }
 
 impl KeyTable {
+    ghost use Rattle.ls_board.specs.Keys.{key_at};
+
     /// No key.
     pub fn new(alloc: Global) -> KeyTable
         ensures empty { result ≡ [] }
@@ -180,6 +191,13 @@ impl KeyTable {
             }),
             None => None,
         }
+    }
+
+    /// The key of this alias, if it has one.
+    pub fn find(&self, alias: u64) -> Option<[u8; 32]>
+        ensures found { result ≡ key_at self.now alias }
+    {
+        self.table.find(alias)
     }
 
     /// Adds a key at the end.

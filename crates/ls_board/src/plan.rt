@@ -74,6 +74,28 @@ impl Plan {
         Ok(())
     }
 
+    /// Adds the actions of another plan at the end. A plan whose weight would not fit has no place
+    /// in memory.
+    pub fn append(&mut self, other: Plan) -> Result<(), Memory>
+        ensures appended { OnOk result (self.new ≡ self.old ++ other) }
+        ensures kept { OnErr result (self.new ≡ self.old) }
+    {
+        let Plan {
+            mut actions,
+            bytes,
+            ..
+        } = other;
+        if actions.len() > u32::MAX as usize - self.actions.len() {
+            return Err(Memory);
+        }
+        let Some(bytes) = self.bytes.checked_add(bytes) else {
+            return Err(Memory);
+        };
+        self.actions.append(&mut actions)?;
+        self.bytes = bytes;
+        Ok(())
+    }
+
     /// The room that the plan uses up: its actions, and their bytes.
     pub fn weight(&self) -> (u32, u64)
         ensures actions { result.0 ≡ length self.now }

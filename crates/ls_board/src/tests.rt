@@ -22,6 +22,10 @@ fn a_plan_weighs_what_it_holds(rt: HostRuntime) -> Result<(), Fail> {
         bytes: Bytes::of(alloc, b"ok")?,
     })?;
     assert_eq!(rt; plan.weight(), (3, 13));
+    let mut whole = Plan::new(alloc);
+    whole.push(Action::Sync)?;
+    whole.append(plan)?;
+    assert_eq!(rt; whole.weight(), (4, 13));
     Ok(())
 }
 
@@ -62,6 +66,7 @@ fn rows_are_pushed_at_the_end(rt: HostRuntime) -> Result<(), Fail> {
     };
     keys.push(row)?;
     assert_eq!(rt; keys.copy(rt.alloc())?.get(0), Some(row));
+    assert_eq!(rt; keys.find(5), Some([1; 32]));
     let mut records = GkTable::new(rt.alloc());
     let row = GkRow {
         sid: 4,
@@ -70,6 +75,8 @@ fn rows_are_pushed_at_the_end(rt: HostRuntime) -> Result<(), Fail> {
     };
     records.push(row)?;
     assert_eq!(rt; records.copy(rt.alloc())?.get(0), Some(row));
+    let counter = Counter { fails: 3, until: 2 };
+    assert_eq!(rt; records.find(4), Some(counter));
     Ok(())
 }
 

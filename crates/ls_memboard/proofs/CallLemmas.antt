@@ -1,10 +1,11 @@
 -- A call that was noted is one call of `act`.
-use Rattle.std.proofs.Common.{◌≡◌, inl, inr, ◌+◌, ◌-◌, ℕ, Bool, true, false, cond, List, [], length, take, replicate, Option, None, Some, refl, sym, ◌∙◌, ap, subst, arith, eq-eqb, le-leb, length-append, length-take}
+use Rattle.std.proofs.Common.{◌≡◌, inl, inr, ◌+◌, ℕ, Bool, true, false, cond, List, [], ◌++◌, length, replicate, Option, None, Some, refl, sym, ◌∙◌, ap, subst, arith, eq-eqb, le-leb, length-append, length-take}
 use Rattle.std.specs.Prelude.{Result, Ok, Err, ◌==◌, ◌≤◌, IsTrue, IsSomeAnd, nat_lt, MatchOption}
 use Rattle.std.specs.FinMap.Entries.{is_sorted, put}
 use Rattle.std.proofs.lemmas.List.{append-nil, length-replicate}
 use Rattle.std.proofs.Math.Nat.{add-zero}
 use Rattle.ls_gcm.specs.Gcm.{gcm_open}
+use Rattle.ls_tape.specs.Tape.{drawn}
 use Rattle.ls_weaver.specs.declared.slot.SlotRead.{SlotRead}
 use Rattle.ls_weaver.specs.declared.slot.SlotRead.TheVariants as read
 use Rattle.ls_weaver.specs.Slots.{slot_answer}
@@ -24,7 +25,6 @@ use Rattle.ls_board.specs.Effect.{Mark, file_at, slot_at, after, Answers, HasSha
 use Rattle.ls_board.specs.Gatekeeper.{sid_of, is_signed, counter_of, answer_by}
 use Rattle.ls_board.specs.Images.{MayHold, MarkWithin, Within, changing}
 use Rattle.ls_board.specs.Keys.{key_at, IsOpening}
-use Rattle.ls_board.specs.Noise.{drawn}
 use Rattle.ls_board.specs.Acts.{Sight, CanAct, Acts, Rose}
 use Rattle.ls_board.proofs.StepLemmas.{done_within, whole_mark, where_all}
 use Rattle.ls_board.proofs.FileLemmas.{with_file_same}
@@ -73,7 +73,7 @@ cell_shape None = tt
 cell_shape (Some key) = tt
 
 drawn_length : (noise : List ℕ) (len : ℕ) (out : List ℕ) → out ≡ drawn noise len → length out ≡ len
-drawn_length noise len out is = omega (arith, ap length is, length-append (take len noise) (replicate (len - length noise) 0), length-take len noise, length-replicate {A = ℕ} (len - length noise) 0)
+drawn_length noise len out is = omega (arith, ap length is, length-take len (noise ++ replicate len 0), length-append noise (replicate len 0), length-replicate {A = ℕ} len 0)
 
 answers_shape : (w : World) (a : Action) (answer : Answer) (out : List ℕ) → ListsInOrder a out → Answers w a answer out → HasShape a answer out
 answers_shape w ListNames answer out lists a = (a.0, lists)

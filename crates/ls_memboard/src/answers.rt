@@ -4,12 +4,10 @@ ghost use Rattle.ls_board.specs.Effect.{Answers, MayLack, file_at, slot_at, read
 ghost use Rattle.ls_board.specs.Gatekeeper.{verify_answer};
 ghost use Rattle.ls_board.specs.Keys.{IsOpening};
 ghost use Rattle.ls_board.specs.Listing.{listing, IsListing};
-ghost use Rattle.ls_board.specs.Noise.{drawn};
 ghost use Rattle.ls_board.specs.declared.action.Answer.TheVariants as answer;
+ghost use Rattle.ls_tape.specs.Tape.{drawn};
 ghost use Rattle.ls_weaver.specs.Slots.{blank_slot, slot_answer};
 ghost use Rattle.ls_memboard.specs.Contents.{IsRead};
-ghost use Rattle.ls_memboard.specs.Listed.{ListsInOrder};
-ghost use Rattle.ls_memboard.specs.Listed.{ListsInOrder};
 ghost use Rattle.ls_memboard.specs.Listed.{ListsInOrder};
 
 use crate::listing::{list_ids, list_names};
@@ -18,7 +16,9 @@ use crate::reading::read_file;
 use ls_board::{Action, Answer};
 use ls_bytes::Memory;
 use ls_keys::KeyFault;
+use ls_tape::drawn;
 use ls_weaver::{Slot, SlotRead, Weaver};
+use std::alloc::Global;
 
 /// Hears bytes of what is left, as many as may be.
 fn hear(rest: &[u8], max: u32, out: &mut Vec<u8>) -> Result<Answer, Memory>
@@ -38,14 +38,13 @@ fn hear(rest: &[u8], max: u32, out: &mut Vec<u8>) -> Result<Answer, Memory>
 }
 
 /// Draws noise, and zeros past its end.
-fn draw(rest: &[u8], len: u32, out: &mut Vec<u8>) -> Result<Answer, Memory>
+fn draw(alloc: Global, rest: &[u8], len: u32, out: &mut Vec<u8>) -> Result<Answer, Memory>
     requires empty { out.old.items ≡ [] }
     ensures drawn { IfOk result (λ answer. (answer ≡ Answer.Bytes)
         × (out.new.items ≡ drawn rest.now len)) }
 {
-    let count = rest.len().min(len as usize);
-    out.extend_from_slice(&rest[..count])?;
-    out.resize(len as usize, 0)?;
+    let bytes = drawn(alloc, rest, len as usize)?;
+    out.extend_from_slice(bytes.as_slice())?;
     Ok(Answer::Bytes)
 }
 
@@ -174,7 +173,7 @@ impl MemBoard {
             Action::ResumeTake => Ok(taken(devices.cell.get())),
             Action::Hear { max } => hear(devices.input.rest(), *max, out),
             Action::Now => Ok(Answer::Moment(devices.moments.moment())),
-            Action::Draw { len } => draw(devices.noise.rest(), *len, out),
+            Action::Draw { len } => draw(self.alloc, devices.noise.rest(), *len, out),
             _ => Ok(Answer::Done),
         }
     }

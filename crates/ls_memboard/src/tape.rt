@@ -1,8 +1,9 @@
 //! What is taken from its front, item by item.
 ghost use Rattle.std.specs.Prelude.{◌≡◌, ◌≤◌, drop, IfOk};
-ghost use Rattle.ls_board.specs.Noise.{next_moment, later_moments};
+ghost use Rattle.ls_tape.specs.Tape.{next_moment, later_moments};
 
 use ls_bytes::Memory;
+use ls_tape::{moments_taken, next_moment};
 use std::alloc::Global;
 use std::marker::Model;
 
@@ -55,18 +56,14 @@ impl Tape<u64> {
     pub(crate) fn moment(&self) -> u64
         ensures next { result ≡ next_moment self.now }
     {
-        match self.rest().first() {
-            Some(moment) => *moment,
-            None => 0,
-        }
+        next_moment(self.rest())
     }
 
     /// Takes a moment, but for the last one, which stays.
     pub(crate) fn advance(&mut self)
         ensures left { self.new ≡ later_moments self.old }
     {
-        if self.rest().len() > 1 {
-            self.skip(1);
-        }
+        let taken = moments_taken(self.rest());
+        self.skip(taken);
     }
 }
