@@ -8,7 +8,7 @@ use Rattle.ls_board.specs.Effect.{file_at}
 use Rattle.ls_board.specs.Images.{Leaves}
 use Rattle.ls_board.specs.declared.action.Part.{Part}
 use Rattle.ls_board.specs.Acts.{Sight, Rose}
-use Rattle.ls_settings.specs.Keeping.{Keeps}
+use Rattle.ls_board.specs.Keeping.{Keeps}
 use Rattle.ls_board.specs.Reach.{SameBut}
 use Rattle.ls_board.specs.Runs.{PlanImage, after_all, AllApply, AllSound, LeavesOnly, FailedAfter}
 use Rattle.ls_board.proofs.RunLemmas.{weaker}

@@ -20,7 +20,7 @@ use Rattle.ls_settings.specs.declared.fault.OpenRefusal.TheVariants.{Foreign}
 use Rattle.ls_settings.specs.Refusals.{refusal_of}
 use Rattle.ls_settings.specs.Loaded.{Loaded, AreUntouched, settings_reach}
 use Rattle.ls_settings.specs.FileReading.{TellsForeign}
-use Rattle.ls_settings.specs.Keeping.{Keeps}
+use Rattle.ls_board.specs.Keeping.{Keeps}
 use Rattle.ls_settings.specs.Loading.{ReadsFiles, IsNotForeign, IsLoadImage, AreLoaded, MakesFiles, Loads}
 use Rattle.ls_settings.proofs.MakeLemmas.{same_image}
 

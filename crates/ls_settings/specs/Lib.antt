@@ -3,4 +3,3 @@ pub mod Loaded
 pub mod Commits
 pub mod FileReading
 pub mod Loading
-pub mod Keeping

@@ -19,11 +19,7 @@ pub(crate) const FILE_LENGTH: u32 = 4096;
 pub(crate) fn settings_name(alloc: Global, side: Side) -> Result<Name, Memory>
     ensures name { IfOk result (λ name. name ≡ settings_text side) }
 {
-    let text: &[u8] = match side {
-        Side::First => b"settings.0",
-        Side::Second => b"settings.1",
-    };
-    match Name::of(alloc, text) {
+    match Name::of(alloc, side.file_name()) {
         Ok(name) => Ok(name),
         Err(_) => Err(Memory),
     }

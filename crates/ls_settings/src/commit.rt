@@ -7,7 +7,7 @@ ghost use Rattle.ls_board.specs.Images.{Leaves};
 ghost use Rattle.ls_board.specs.Reach.{SameBut};
 ghost use Rattle.ls_board.specs.Runs.{Did, LeavesOnly};
 ghost use Rattle.ls_naming.specs.Current.{current};
-ghost use Rattle.ls_settings.specs.Keeping.{Keeps};
+ghost use Rattle.ls_board.specs.Keeping.{Keeps};
 ghost use Rattle.ls_settings.specs.Loaded.{IsReady, settings_reach};
 ghost use Rattle.ls_settings.specs.Commits.{IsCommit, IsCommitImage};
 

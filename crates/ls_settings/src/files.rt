@@ -4,7 +4,7 @@ ghost use Rattle.ls_formats.specs.PartNames.{settings_text};
 ghost use Rattle.ls_board.specs.Acts.{Sight};
 ghost use Rattle.ls_board.specs.declared.action.BoardFault.TheVariants as board_fault;
 ghost use Rattle.ls_settings.specs.FileReading.{file_of};
-ghost use Rattle.ls_settings.specs.Keeping.{Keeps};
+ghost use Rattle.ls_board.specs.Keeping.{Keeps};
 ghost use Rattle.ls_settings.specs.Loading.{ReadsFile, ReadsFiles};
 
 use crate::actions::settings_name;

@@ -2,7 +2,7 @@
 ghost use Rattle.std.specs.Prelude.{IsTrue};
 ghost use Rattle.ls_board.specs.Acts.{Sight};
 ghost use Rattle.ls_settings.specs.declared.fault.OpenRefusal.TheVariants as refusal;
-ghost use Rattle.ls_settings.specs.Keeping.{Keeps};
+ghost use Rattle.ls_board.specs.Keeping.{Keeps};
 ghost use Rattle.ls_settings.specs.Loading.{Loads, Looks};
 
 use crate::fault::OpenRefusal;

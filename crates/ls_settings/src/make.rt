@@ -6,7 +6,7 @@ ghost use Rattle.ls_board.specs.Acts.{Sight};
 ghost use Rattle.ls_board.specs.Effect.{file_at};
 ghost use Rattle.ls_settings.specs.declared.fault.OpenRefusal.TheVariants as refusal;
 ghost use Rattle.ls_settings.specs.Commits.{synced};
-ghost use Rattle.ls_settings.specs.Keeping.{Keeps};
+ghost use Rattle.ls_board.specs.Keeping.{Keeps};
 ghost use Rattle.ls_settings.specs.Loading.{make_of, makes_of, RunsPlan, IsMakePlan, IsFound, MakesFiles, IsNotForeign};
 
 use crate::actions::{FILE_LENGTH, push_synced, settings_name};
