@@ -5,3 +5,5 @@ mod DecisionLemmas
 mod StandingLemmas
 mod SlotNameLemmas
 mod QuietLemmas
+mod TableLemmas
+mod BareLemmas

@@ -45,7 +45,7 @@ part_decided w r name part b weaver is file spelled same named =
     subst (λ (n : FileName). IsTrue (not b) ↔ IsUnnamed w r (name_text n)) (sym spelled)
     (part_by w r part b is (subst IsFileName spelled file) (subst (λ (v : Bool). MatchBool b (NamesFile v r part) (¬ NamesFile v r part)) same named))
 
-not_spelled : (bytes : List ℕ) (fault : FormatFault) → Parses IsFileName name_text bytes (Err fault) → ¬ Spells IsFileName name_text bytes
+pub not_spelled : (bytes : List ℕ) (fault : FormatFault) → Parses IsFileName name_text bytes (Err fault) → ¬ Spells IsFileName name_text bytes
 not_spelled bytes (Bad at) parses = parses.outside
 not_spelled bytes Memory parses = absurd parses
 

@@ -2,3 +2,4 @@ pub mod Walking
 pub mod Wholes
 pub mod Parts
 pub mod SlotNames
+pub mod BareRows

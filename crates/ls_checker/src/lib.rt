@@ -2,12 +2,14 @@
 #![tactic(auto)]
 
 mod arming;
+mod bare;
+mod bare_devices;
+mod bare_files;
 mod checks;
 mod escrow;
 mod files;
 mod foreign;
 mod named_slots;
-mod names;
 mod number;
 mod opening;
 mod place;
@@ -18,6 +20,7 @@ mod user;
 mod user_files;
 mod walk;
 
+pub use bare::is_bare;
 pub use foreign::Foreign;
 pub use opening::first_foreign;
 pub use quiet::is_quiet;

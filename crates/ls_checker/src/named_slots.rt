@@ -8,10 +8,10 @@ ghost use Rattle.ls_sealing.specs.Protectors.{has_weaver};
 ghost use Rattle.ls_checker.specs.SlotNames.{is_file_of, names_slot};
 
 use crate::files::part_file;
-use crate::names::row_files;
 use ls_board::World;
 use ls_bytes::{Bytes, Memory};
 use ls_formats::{FilePart, PartName, SlotFile};
+use ls_naming::row_files;
 use ls_record::{Armed, Record, UserRow};
 use std::alloc::Global;
 

@@ -22,7 +22,7 @@ use ls_weaver::Slot;
 use std::alloc::Global;
 
 /// A board has Weaver where it has slots.
-fn has_weaver(world: &World) -> bool
+pub(crate) fn has_weaver(world: &World) -> bool
     ensures same { result ≡ has_weaver world.now }
 {
     world.slots.len() > 0
@@ -56,7 +56,7 @@ fn is_unnamed(world: &World, holder: &Record, name: &[u8]) -> bool
 
 // ---- slots
 
-fn same_slot(a: &Slot, b: &Slot) -> bool
+pub(crate) fn same_slot(a: &Slot, b: &Slot) -> bool
     ensures same { IsTrue result ↔ (a.now ≡ b.now) }
 {
     a == b
@@ -124,7 +124,7 @@ fn sid_of(handle: &[u8; 49]) -> u64
 }
 
 /// Whether the record doesn't name the Gatekeeper's record of this id.
-fn is_unnamed_record(world: &World, holder: &Record, sid: u64) -> bool
+pub(crate) fn is_unnamed_record(world: &World, holder: &Record, sid: u64) -> bool
     ensures decided { IsTrue result
         ↔ (¬ NamesEnrolled (has_weaver world.now) holder.now sid) }
 {
@@ -169,14 +169,14 @@ fn is_quiet_check(
 // ---- keys and the cell
 
 /// Whether the record doesn't name the key of this alias.
-fn is_unnamed_key(holder: &Record, alias: u64) -> bool
+pub(crate) fn is_unnamed_key(holder: &Record, alias: u64) -> bool
     ensures decided { IsTrue result ↔ (¬ NamesKey holder.now alias) }
 {
     !names_key(holder, alias)
 }
 
 /// Whether the record names no arming.
-fn is_disarmed(holder: &Record) -> bool
+pub(crate) fn is_disarmed(holder: &Record) -> bool
     ensures decided { IsTrue result ↔ (holder.now.armed ≡ None) }
 {
     holder.armed.is_none()

@@ -1,6 +1,5 @@
 //! What the two settings files of a world say.
 ghost use Rattle.std.specs.Prelude.{◌≡◌, ◌↔◌, true, IsTrue, Ok, Some, IfOk, IfSome, IfNone, IsOkAnd};
-ghost use Rattle.ls_formats.specs.PartNames.{settings_text};
 ghost use Rattle.ls_formats.specs.declared.side.Side.TheVariants as sides;
 ghost use Rattle.ls_checker.specs.Wholes.{IsWholeIfOpen};
 ghost use Rattle.ls_naming.specs.Current.{Settled, current, is_open};
@@ -58,18 +57,9 @@ fn is_whole_if_open(bytes: &[u8]) -> bool
 fn side_is_whole(world: &World, side: Side) -> bool
     ensures same { IsTrue result ↔ IsWholeIfOpen world.now side }
 {
-    match world.files.content(settings_text(side)) {
+    match world.files.content(side.file_name()) {
         None => true,
         Some(bytes) => is_whole_if_open(bytes),
-    }
-}
-
-fn settings_text(side: Side) -> &'static [u8]
-    ensures text { result.now ≡ settings_text side }
-{
-    match side {
-        Side::First => b"settings.0",
-        Side::Second => b"settings.1",
     }
 }
 

@@ -16,7 +16,6 @@ ghost use Rattle.ls_standing.specs.Named.{held_of_user, is_its_part};
 ghost use Rattle.ls_standing.specs.Standing.{HoldsHandle, HoldsResume, opened_resume};
 
 use crate::files::part_file;
-use crate::names::{has_secure, is_armed};
 use crate::number::same_bytes;
 use byteorder::{BigEndian, ByteOrder};
 use ls_board::{Counter, World};
@@ -24,6 +23,7 @@ use ls_bytes::{Bytes, Memory};
 use ls_formats::{FilePart, PartName};
 use ls_gatekeeper::Gatekeeper;
 use ls_gcm::{OpenFault, open};
+use ls_naming::{has_secure, is_armed};
 use ls_record::{Armed, UserRow};
 use ls_secret::{Personal, Secret};
 use ls_vault::User;
@@ -121,14 +121,14 @@ fn is_user_handle(alloc: Global, handle: &Option<Bytes>, device: &[u8; 32], user
 }
 
 /// The Gatekeeper's record of the row's secure id.
-fn secure_counter(alloc: Global, world: &World, row: &UserRow) -> Result<Option<Counter>, Memory>
-    ensures same { IfOk result (λ counter. counter
-        ≡ where_it_has (has_secure row.now) (record_at world.now.gk row.now.secure)) }
+fn secure_counter(world: &World, row: &UserRow) -> Option<Counter>
+    ensures same { result
+        ≡ where_it_has (has_secure row.now) (record_at world.now.gk row.now.secure) }
 {
     if !has_secure(row) {
-        return Ok(None);
+        return None;
     }
-    Ok(world.gk.copy(alloc)?.into_table().find(row.secure))
+    world.gk.find(row.secure)
 }
 
 fn has_no_fails(counter: Option<Counter>) -> bool
@@ -156,7 +156,7 @@ pub(crate) fn holds_handle(
         return Ok(true);
     }
     let handle = user_file(alloc, world, armed, row, FilePart::Handle)?;
-    let counter = secure_counter(alloc, world, row)?;
+    let counter = secure_counter(world, row);
     Ok(has_no_fails(counter) && is_user_handle(alloc, &handle, &world.gk_key, user))
 }
 
@@ -240,6 +240,6 @@ pub(crate) fn holds_resume(
         return Ok(true);
     };
     let file = user_file(alloc, world, armed, row, FilePart::Resume)?;
-    let key = world.keys.copy(alloc)?.into_table().find(0);
+    let key = world.keys.find(0);
     resumes(alloc, &key, once, &file, &user.secret)
 }

@@ -10,11 +10,11 @@ ghost use Rattle.ls_checker.specs.Walking.{walked, passed, walked_by, foreign_at
 use crate::checks::{Beside, file_fault};
 use crate::files::part_file;
 use crate::foreign::Foreign;
-use crate::names::row_files;
 use crate::number::byte_at;
 use ls_board::World;
 use ls_bytes::{Bytes, Memory, SlotList};
 use ls_formats::{FilePart, PartName, SlotFile};
+use ls_naming::row_files;
 use ls_record::{Armed, UserRow};
 use std::alloc::Global;
 use std::marker::Model;

@@ -3,7 +3,6 @@ ghost use Rattle.std.specs.Prelude.{◌≡◌, ◌<◌, false, slice_get, IfOk};
 ghost use Rattle.std.specs.Option.{option_and_then};
 ghost use Rattle.ls_formats.specs.PartNames.{is_of_user, part_name_text};
 ghost use Rattle.ls_board.specs.Gatekeeper.{record_at};
-ghost use Rattle.ls_board.specs.Keys.{key_at};
 ghost use Rattle.ls_sealing.specs.Protectors.{has_weaver, has_part, is_enrolled, file_name};
 ghost use Rattle.ls_sealing.specs.Protectors.{where_it_has, held_file, slot_number};
 ghost use Rattle.ls_unsealing.specs.Purposes.{purpose_of, protector_of, has_text};
@@ -87,26 +86,15 @@ fn slot_of(world: &World, file: &Option<Bytes>) -> Option<Slot>
 }
 
 /// The Gatekeeper's record of a protector's id, where it is to have one.
-fn counter_of(
-    alloc: Global,
-    world: &World,
-    protector: &Protector,
-) -> Result<Option<Counter>, Memory>
-    ensures same { IfOk result (λ counter. counter ≡ where_it_has
+fn counter_of(world: &World, protector: &Protector) -> Option<Counter>
+    ensures same { result ≡ where_it_has
         (is_enrolled (has_weaver world.now) (purpose_of protector.now.purpose))
-        (record_at world.now.gk protector.now.id)) }
+        (record_at world.now.gk protector.now.id) }
 {
     if world.slots.len() > 0 || !has_credential(protector.purpose) {
-        return Ok(None);
+        return None;
     }
-    Ok(world.gk.copy(alloc)?.into_table().find(protector.id))
-}
-
-/// The key of an id in the key store.
-fn key_of(alloc: Global, world: &World, id: u64) -> Result<Option<[u8; 32]>, Memory>
-    ensures same { IfOk result (λ key. key ≡ key_at world.now.keys id) }
-{
-    Ok(world.keys.copy(alloc)?.into_table().find(id))
+    world.gk.find(protector.id)
 }
 
 impl HeldParts {
@@ -130,9 +118,9 @@ impl HeldParts {
             weaver: world.slots.len() > 0,
             slot: slot_of(world, &files.weaver),
             files,
-            counter: counter_of(alloc, world, protector)?,
+            counter: counter_of(world, protector),
             device: world.gk_key,
-            key: key_of(alloc, world, protector.id)?,
+            key: world.keys.find(protector.id),
         })
     }
 }

@@ -10,7 +10,7 @@ returns c =
     let w = c.args.world.now in
     record {
       held = all_held w p _ c.in_ok-held_file.ensures.same c.in_ok-held_file-2.ensures.same c.in_ok-held_file-3.ensures.same c.in_ok-held_file-4.ensures.same c.in_ok-held_file-5.ensures.same
-          (nat_lt 0 c.len.result) c.slot_of.result c.in_ok-counter_of.field-0 c.in_ok-key_of.field-0
-          (ap (nat_lt 0) c.len.ensures.count) c.slot_of.ensures.same c.in_ok-counter_of.ensures.same
-          c.in_ok-key_of.ensures.same;
+          (nat_lt 0 c.len.result) c.slot_of.result c.counter_of.result c.find.result
+          (ap (nat_lt 0) c.len.ensures.count) c.slot_of.ensures.same c.counter_of.ensures.same
+          c.find.ensures.found;
     }
