@@ -10,7 +10,7 @@ use Rattle.ls_board.specs.Effect.{after, weight_of}
 use Rattle.ls_board.specs.Images.{changing}
 use Rattle.ls_board.specs.Runs.{after_all, past_of, AllSound, AllApply, CanRun, Did, FailedAfter}
 use Rattle.ls_board.proofs.RunLemmas.{after_all-append}
-use Rattle.ls_settings.specs.Keeping.{Keeps}
+use Rattle.ls_board.specs.Keeping.{Keeps}
 use Rattle.ls_change.specs.declared.work.Work.{Work}
 use Rattle.ls_change.specs.Work.{HasRoom}
 

@@ -1,3 +1,4 @@
+mod WeightLemmas
 mod CallLemmas
 mod RestLemmas
 mod ChangeLemmas

@@ -2,7 +2,7 @@
 ghost use Rattle.std.specs.Prelude.{◌≡◌, ◌⊎◌, IsTrue, IfOk, OnOk, OnErr};
 ghost use Rattle.ls_board.specs.Acts.{Sight};
 ghost use Rattle.ls_board.specs.Runs.{Did, LeavesOnly};
-ghost use Rattle.ls_settings.specs.Keeping.{Keeps};
+ghost use Rattle.ls_board.specs.Keeping.{Keeps};
 ghost use Rattle.ls_settings.specs.Loaded.{IsReady};
 ghost use Rattle.ls_settings.specs.Commits.{IsCommit};
 ghost use Rattle.ls_vault.specs.declared.vault.Vault.{Vault as Vaults};
