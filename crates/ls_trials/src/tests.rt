@@ -1,11 +1,11 @@
 //! A board in memory, and the actions that are tried on it.
 ghost use Rattle.std.specs.Prelude.{ℕ, IsTrue, IfOk};
-ghost use Rattle.ls_board.specs.Acts.{Sight};
 ghost use Rattle.ls_board.specs.Effect.{Applies, IsSound};
 ghost use Rattle.ls_memboard.specs.Seen.{sight_of};
 
-use ls_board::{Action, Answer, Board, BoardFault, World};
+use ls_board::{Action, Answer, BoardFault, World};
 use ls_bytes::{Bytes, Memory, Name};
+use ls_fixtures::act_with_room;
 use ls_memboard::{FailureList, MemBoard};
 use std::alloc::Global;
 use std::test::Fail;
@@ -14,11 +14,14 @@ mod calls;
 mod commits;
 mod images;
 mod plans;
-mod protectors;
 mod settings;
 
+/// The text `opened`, sealed by another program under the key that `K` puts.
+const SEALED: &[u8; 34] =
+    b"abcdefghijkl\x0b\x1f\x43\xa0\xfb\xd2\x63\x6e\x58\xb6\xea\xeb\xa9\x41\x5e\xaf\x5d\xc5\x3b\xe8\xb3\xad";
+
 /// The action of a letter, on the file `a`, and of a small letter on the file `b`.
-fn action_of(alloc: Global, letter: u8) -> Result<Action, Fail>
+fn file_action(alloc: Global, letter: u8) -> Result<Action, Fail>
     ensures sound { IfOk result (λ a. (slots : ℕ) → IsSound slots a) }
 {
     let name = Name::of(
@@ -41,6 +44,25 @@ fn action_of(alloc: Global, letter: u8) -> Result<Action, Fail>
             bytes: Bytes::of(alloc, b"\xa5")?,
         }),
         b'R' => Ok(Action::Remove { name }),
+        _ => Ok(Action::Read { name }),
+    }
+}
+
+/// The opening of a sealed text with the key that `K` puts.
+fn opening(alloc: Global, sealed: &[u8]) -> Result<Action, Fail>
+    ensures sound { IfOk result (λ a. (slots : ℕ) → IsSound slots a) }
+{
+    Ok(Action::KeyOpen {
+        alias: 7,
+        bytes: Bytes::of(alloc, sealed)?,
+    })
+}
+
+/// The action of a letter.
+fn action_of(alloc: Global, letter: u8) -> Result<Action, Fail>
+    ensures sound { IfOk result (λ a. (slots : ℕ) → IsSound slots a) }
+{
+    match letter {
         b'S' => Ok(Action::Sync),
         b'L' => Ok(Action::List),
         b'G' => Ok(Action::GkEnroll { sid: 5 }),
@@ -50,9 +72,11 @@ fn action_of(alloc: Global, letter: u8) -> Result<Action, Fail>
             key: [1; 32],
         }),
         b'k' => Ok(Action::KeyList),
+        b'O' => opening(alloc, SEALED),
+        b'o' => opening(alloc, &SEALED[..33]),
         b'H' => Ok(Action::Hear { max: 3 }),
         b'D' => Ok(Action::Draw { len: 2 }),
-        _ => Ok(Action::Read { name }),
+        _ => file_action(alloc, letter),
     }
 }
 
@@ -72,20 +96,6 @@ fn applies(board: &MemBoard, a: &Action) -> Result<bool, Memory>
     }
 }
 
-/// Does one action for which there is no room yet.
-fn done<B: Board>(
-    alloc: Global,
-    board: &mut B,
-    a: &Action,
-    out: &mut Vec<u8>,
-) -> Result<Result<Answer, BoardFault>, Memory>
-    requires sound { (slots : ℕ) → IsSound slots a.now }
-    requires applies { IsTrue (B.sight board.old).told → Applies (B.sight board.old).world a.now }
-{
-    board.ready(alloc, 1, a.weight())?;
-    Ok(board.act(a, out))
-}
-
 /// Does the action of a letter.
 fn act(
     alloc: Global,
@@ -97,7 +107,7 @@ fn act(
     if !applies(board, &action)? {
         return Err(Fail::from("no such place"));
     }
-    Ok(done(alloc, board, &action, out)?)
+    Ok(act_with_room(alloc, board, &action, out)?)
 }
 
 /// Does the actions of these letters.

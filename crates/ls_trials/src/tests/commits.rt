@@ -1,8 +1,9 @@
 //! What a crash leaves of one commit: each image says the old record or the new one. The bytes are
 //! written out by hand.
 
-use crate::tests::settings::{board_on, board_with, commit, loaded, record_of};
+use crate::tests::settings::{board_with, bytes_of, commit, loaded};
 use ls_bytes::Bytes;
+use ls_fixtures::{board_on, record_of};
 use ls_memboard::{MemBoard, Pick};
 use std::alloc::Global;
 use std::test::Fail;
@@ -163,10 +164,7 @@ fn wrong_image(alloc: Global, board: &MemBoard, case: &Case) -> Result<Option<&'
 
 /// Whether the file begins with these.
 fn is_written(alloc: Global, board: &MemBoard, case: &Case) -> Result<bool, Fail> {
-    let mut expected = Vec::new(alloc);
-    for part in case.written {
-        expected.extend_from_slice(&hex::decode(alloc, *part)?)?;
-    }
+    let expected = bytes_of(alloc, case.written)?;
     let world = board.world()?;
     let Some(bytes) = world.files.content(case.file) else {
         return Ok(false);

@@ -71,13 +71,29 @@ fn holds(image: &World, name: &[u8], expected: Option<&[u8]>) -> bool {
     image.touched.len() == 0 && image.files.content(name) == expected
 }
 
+/// Whether the image of a crash behind these actions holds this.
+fn leaves(
+    alloc: Global,
+    letters: &[u8],
+    pick: Pick,
+    name: &[u8],
+    expected: Option<&[u8]>,
+) -> Result<bool, Fail> {
+    let image = image(alloc, letters, pick)?;
+    Ok(holds(&image, name, expected))
+}
+
 #[test]
 fn a_crash_leaves_the_old_file_or_the_new_one(rt: HostRuntime) -> Result<(), Fail> {
     for (letters, old, new) in IMAGES.iter() {
-        let before = image(rt.alloc(), *letters, Pick::Old)?;
-        assert!(rt; holds(&before, b"a", *old), "{letters:?}");
-        let after = image(rt.alloc(), *letters, Pick::New)?;
-        assert!(rt; holds(&after, b"a", *new), "{letters:?}");
+        assert!(rt;
+            leaves(rt.alloc(), *letters, Pick::Old, b"a", *old)?,
+            "old: {letters:?}"
+        );
+        assert!(rt;
+            leaves(rt.alloc(), *letters, Pick::New, b"a", *new)?,
+            "new: {letters:?}"
+        );
     }
     Ok(())
 }
@@ -85,8 +101,11 @@ fn a_crash_leaves_the_old_file_or_the_new_one(rt: HostRuntime) -> Result<(), Fai
 #[test]
 fn a_crash_leaves_noise(rt: HostRuntime) -> Result<(), Fail> {
     for (letters, seed, name, noisy) in NOISE.iter() {
-        let noise = image(rt.alloc(), *letters, Pick::Noise(*seed))?;
-        assert!(rt; holds(&noise, *name, *noisy), "{letters:?}");
+        let pick = Pick::Noise(*seed);
+        assert!(rt;
+            leaves(rt.alloc(), *letters, pick, *name, *noisy)?,
+            "{letters:?}"
+        );
     }
     Ok(())
 }

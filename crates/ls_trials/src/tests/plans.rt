@@ -2,12 +2,12 @@
 ghost use Rattle.std.specs.Prelude.{◌≡◌, ℕ, List, IfOk};
 ghost use Rattle.ls_board.specs.declared.action.Action.TheVariants.{Put};
 ghost use Rattle.ls_board.specs.declared.world.World.{World as Worlds};
-ghost use Rattle.ls_board.specs.Acts.{Sight};
 ghost use Rattle.ls_board.specs.Runs.{AllSound, AllApply};
 
 use crate::tests::board_of;
-use ls_board::{Action, Board, Part, Plan, PlanFault, run_plan};
-use ls_bytes::{Bytes, Memory, Name};
+use ls_board::{Action, Board, Part, Plan, PlanFault};
+use ls_bytes::{Bytes, Name};
+use ls_fixtures::run_with_room;
 use ls_memboard::{Failure, FailureList, MemBoard};
 use std::alloc::Global;
 use std::test::Fail;
@@ -33,16 +33,6 @@ fn two_puts(alloc: Global) -> Result<Plan, Fail>
     Ok(plan)
 }
 
-/// Runs a plan for which there is no room yet.
-fn run<B: Board>(alloc: Global, board: &mut B, plan: &Plan) -> Result<Result<(), PlanFault>, Memory>
-    requires sound { (slots : ℕ) → AllSound slots plan.now }
-    requires applies { (w : Worlds) → AllApply w plan.now }
-{
-    let (actions, bytes) = plan.weight();
-    board.ready(alloc, actions, bytes)?;
-    Ok(run_plan(board, plan))
-}
-
 /// A board on which the second call fails.
 fn failing(alloc: Global) -> Result<MemBoard, Fail> {
     let mut failures = FailureList::new(alloc);
@@ -53,11 +43,16 @@ fn failing(alloc: Global) -> Result<MemBoard, Fail> {
     board_of(alloc, failures, b"")
 }
 
-/// How the plan ends on it.
-fn ended(alloc: Global) -> Result<Result<(), PlanFault>, Fail> {
+/// How the plan ends on a board.
+fn ended_on<B: Board>(alloc: Global, board: &mut B) -> Result<Result<(), PlanFault>, Fail> {
     let plan = two_puts(alloc)?;
+    Ok(run_with_room(alloc, board, &plan)?)
+}
+
+/// How it ends where the second call fails.
+fn ended(alloc: Global) -> Result<Result<(), PlanFault>, Fail> {
     let mut board = failing(alloc)?;
-    Ok(run(alloc, &mut board, &plan)?)
+    ended_on(alloc, &mut board)
 }
 
 #[test]

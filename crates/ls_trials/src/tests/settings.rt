@@ -1,46 +1,34 @@
 //! Settings over a board in memory: what is loaded, looked at and committed.
-ghost use Rattle.std.specs.Prelude.{◌≡◌, IsTrue, IfOk, OnOk};
+ghost use Rattle.std.specs.Prelude.{IsTrue};
 ghost use Rattle.ls_board.specs.Acts.{Sight};
-ghost use Rattle.ls_settings.specs.Loaded.{IsReady, AreUntouched};
+ghost use Rattle.ls_settings.specs.Loaded.{IsReady};
 
-use ls_board::{Action, Board, World};
+use ls_board::{Board, World};
 use ls_bytes::{Bytes, Memory, Name};
-use ls_memboard::{FailureList, MemBoard};
+use ls_fixtures::{board_on, open_settings};
+use ls_memboard::MemBoard;
 use ls_record::Record;
 use ls_settings::Settings;
 use std::alloc::Global;
 use std::test::Fail;
 
-/// The record of these bytes.
-pub fn record_of(alloc: Global, digits: &str) -> Result<Record, Fail> {
-    let bytes = hex::decode(alloc, digits)?;
-    Ok(Record::parse(alloc, &bytes).ok().ok_or("record")?)
-}
-
-/// Puts a file of 4,096 bytes that begins with these; none for no digits.
-fn put_settings(
-    alloc: Global,
-    world: &mut World,
-    name: &[u8],
-    digits: &[&str],
-) -> Result<(), Fail> {
+/// The bytes of these parts, in hex.
+pub fn bytes_of(alloc: Global, parts: &[&str]) -> Result<Vec<u8>, Fail> {
     let mut bytes = Vec::new(alloc);
-    for part in digits {
+    for part in parts {
         bytes.extend_from_slice(&hex::decode(alloc, *part)?)?;
     }
-    if bytes.is_empty() {
-        return Ok(());
-    }
-    bytes.resize(4096, 0)?;
-    Ok(world.put_file(&Name::of(alloc, name)?, &bytes)?)
+    Ok(bytes)
 }
 
-/// A board on this world, in which no call fails.
-pub fn board_on(alloc: Global, world: World) -> Result<MemBoard, Fail> {
-    if world.slots.len() > 256 {
-        return Err(Fail::from("too many slots"));
+/// Puts a file of 4,096 bytes that begins with these; none for no parts.
+fn put_settings(alloc: Global, world: &mut World, name: &[u8], parts: &[&str]) -> Result<(), Fail> {
+    if parts.is_empty() {
+        return Ok(());
     }
-    Ok(MemBoard::new(alloc, world, FailureList::new(alloc))?)
+    let mut bytes = bytes_of(alloc, parts)?;
+    bytes.resize(4096, 0)?;
+    Ok(world.put_file(&Name::of(alloc, name)?, &bytes)?)
 }
 
 /// A board with these two settings files.
@@ -49,27 +37,6 @@ pub fn board_with(alloc: Global, first: &[&str], second: &[&str]) -> Result<MemB
     put_settings(alloc, &mut world, b"settings.0", first)?;
     put_settings(alloc, &mut world, b"settings.1", second)?;
     board_on(alloc, world)
-}
-
-/// Puts all changes of files on the disk.
-fn sync<B: Board>(alloc: Global, board: &mut B) -> Result<(), Fail>
-    ensures told { (B.sight board.new).told ≡ (B.sight board.old).told }
-    ensures untouched { IsTrue (B.sight board.old).told
-        → OnOk result (AreUntouched (B.sight board.new).world) }
-{
-    board.ready(alloc, 1, 0)?;
-    let _ = board.act(&Action::Sync, &mut Vec::new(alloc))?;
-    Ok(())
-}
-
-/// Opens the settings.
-pub fn open<B: Board>(alloc: Global, board: &mut B) -> Result<Settings, Fail>
-    ensures told { (B.sight board.new).told ≡ (B.sight board.old).told }
-    ensures ready { IsTrue (B.sight board.old).told
-        → IfOk result (IsReady (B.sight board.new).world) }
-{
-    sync(alloc, board)?;
-    Ok(Settings::load(alloc, board).ok().ok_or("load")?)
 }
 
 /// Makes a prepared commit.
@@ -91,7 +58,7 @@ fn run<B: Board>(
 
 /// Opens the settings, and commits a record.
 pub fn commit<B: Board>(alloc: Global, board: &mut B, next: Record) -> Result<(), Fail> {
-    let mut settings = open(alloc, board)?;
+    let mut settings = open_settings(alloc, board)?;
     run(alloc, board, &mut settings, next)
 }
 

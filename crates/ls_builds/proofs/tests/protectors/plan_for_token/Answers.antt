@@ -4,7 +4,7 @@ use Rattle.ls_board.specs.Runs.{AllApply, AllSound}
 use Rattle.ls_sealing.specs.Draws.{token_draw}
 use Rattle.ls_sealing.specs.Protectors.{token, Protector}
 use Rattle.ls_sealing.specs.Building.{token_writing}
-use Rattle.ls_trials.proofs.tests.protectors.plan_for_token.Goals as goal
+use Rattle.ls_builds.proofs.tests.protectors.plan_for_token.Goals as goal
 
 pub returns : goal.returns
 returns c =

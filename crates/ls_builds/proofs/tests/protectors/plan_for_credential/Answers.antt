@@ -4,7 +4,7 @@ use Rattle.ls_board.specs.Runs.{AllApply, AllSound}
 use Rattle.ls_sealing.specs.Draws.{credential_draw}
 use Rattle.ls_sealing.specs.Protectors.{credential, Protector}
 use Rattle.ls_sealing.specs.Building.{credential_writing}
-use Rattle.ls_trials.proofs.tests.protectors.plan_for_credential.Goals as goal
+use Rattle.ls_builds.proofs.tests.protectors.plan_for_credential.Goals as goal
 
 pub returns : goal.returns
 returns c =
