@@ -36,20 +36,28 @@ fn words(rt: &(impl Env + AllocGlobal)) -> io::Result<Vec<String>> {
     Ok(words)
 }
 
-/// Runs the words behind the directory, and prints what was said.
+/// Runs the words behind the directory on the script, and prints what was said.
 fn serve(rt: &HostRuntime, words: &[String]) -> Status {
-    if words.is_empty() {
-        return Status::Usage;
+    match words {
+        [] => Status::Usage,
+        [_, words @ ..] => match begun(rt) {
+            Ok(mut board) => {
+                let status = run(rt.alloc(), words, &mut board);
+                printed(rt, &board, status)
+            }
+            Err(status) => status,
+        },
     }
-    let script = match take_script(rt.alloc(), rt.stdin()) {
-        Ok(script) => script,
-        Err(status) => return status,
-    };
-    let mut board = match board(rt.alloc(), script) {
-        Ok(board) => board,
-        Err(Memory) => return Status::Memory,
-    };
-    let status = run(rt.alloc(), &words[1..], &mut board);
+}
+
+/// A board whose input is the script on standard input.
+fn begun(rt: &HostRuntime) -> Result<MemBoard, Status> {
+    let script = take_script(rt.alloc(), rt.stdin())?;
+    board(rt.alloc(), script).map_err(|_| Status::Memory)
+}
+
+/// Prints what was said, and gives the status.
+fn printed(rt: &HostRuntime, board: &MemBoard, status: Status) -> Status {
     match rt.stdout().write_all(board.said()) {
         Ok(()) => status,
         Err(_) => Status::Fault(Part::Output),

@@ -72,8 +72,8 @@ fn name_of(part: Part) -> &'static str
     }
 }
 
-#[tactic(auto, using(crate::proofs::NameText::is_utf8))]
 /// The bytes of a name are printable ones of ASCII, so they are a text.
+#[tactic(auto, using(crate::proofs::NameText::is_utf8))]
 fn text_of(name: &Name) -> &str
     ensures same { result.now ≡ name.now }
 {

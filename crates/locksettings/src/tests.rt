@@ -9,6 +9,7 @@ use std::alloc::{AllocError, Global};
 use std::test::Fail;
 
 mod faults;
+mod input;
 mod scripts;
 mod settings;
 
