@@ -1,25 +1,16 @@
 -- What the serving of a script keeps, function by function.
-use Rattle.std.specs.Prelude.{◌≡◌, ◌≢◌, ◌⊎◌, ◌∷◌, ◌++◌, ◌≤◌, ◌+◌, ℕ, [], List, take, length, Result, OnOk, Err, Some}
+use Rattle.std.specs.Prelude.{◌≡◌, ◌≢◌, ◌⊎◌, ◌∷◌, ◌++◌, ◌≤◌, ◌+◌, ℕ, [], List, take, length, Result, OnOk, Some}
 use Rattle.ls_board.specs.declared.action.Action.{Action}
 use Rattle.ls_board.specs.declared.action.Action.TheVariants.{Put, Sync, Hear, Say}
 use Rattle.ls_board.specs.declared.action.BoardFault.{BoardFault}
-use Rattle.ls_board.specs.declared.action.BoardFault.TheVariants.{Failed, Memory}
-use Rattle.ls_board.specs.declared.action.Part.{Part}
+use Rattle.ls_board.specs.declared.action.BoardFault.TheVariants.{Failed}
 use Rattle.ls_board.specs.declared.action.Part.TheVariants.{Files}
 use Rattle.ls_board.specs.declared.world.World.{World}
-use Rattle.ls_board.specs.Acts.{Sight, Rose}
+use Rattle.ls_board.specs.Acts.{Sight}
 use Rattle.ls_board.specs.Effect.{file_at, weight_of}
 use Rattle.ls_top.specs.Runs.{StandsFor, SaysFront, HoldsFront, CallsInTurn, EndsWithPut}
 use Rattle.ls_top.specs.Script.{parted, lines_of, served, replies, users_after}
 use Rattle.ls_top.specs.UsersFile.{settings_0}
-
--- what every step of a run keeps, on any board: a fault comes only where its part's count rose, and
--- no other answer where one grew
-pub record Keeps {T : Type 0} (old new : Sight) (result : Result T BoardFault) : Type 0 where
-  pub told : new.told ≡ old.told
-  pub quiet : OnOk result (new.faults ≡ old.faults)
-  pub cause : (p : Part) → result ≡ Err (Failed p) → Rose (old.faults p) (new.faults p)
-  pub memory : result ≡ Err Memory → new.faults ≡ old.faults
 
 -- no other file than `settings.0` was changed
 abbrev pub KeepsOthers : World → World → Type 0

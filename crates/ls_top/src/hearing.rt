@@ -1,9 +1,11 @@
 //! The script as it comes, in pieces.
 ghost use Rattle.std.specs.Prelude.{◌≡◌, ◌≤◌, ◌+◌, ◌++◌, ◌∷◌, [], ℕ, List, length, take, IsTrue, OnOk, IfOk, IfErr};
+ghost use Rattle.ls_board.specs.Keeping.{Keeps};
+ghost use Rattle.ls_board.specs.declared.action.BoardFault.TheVariants as board_fault;
 ghost use Rattle.ls_board.specs.Acts.{Sight};
 ghost use Rattle.ls_top.specs.Ending.{IsEnding, IsOutcome};
 ghost use Rattle.ls_top.specs.Script.{lines_of};
-ghost use Rattle.ls_top.specs.Serving.{Keeps, Serving, CutShort, Progress, Hears};
+ghost use Rattle.ls_top.specs.Serving.{Serving, CutShort, Progress, Hears};
 
 use crate::partial_line::PartialLine;
 use crate::serving::serve_line;
@@ -32,7 +34,7 @@ pub fn serve_input<B: Board>(
     board: &mut B,
     users: Users,
 ) -> Result<Ending, BoardFault>
-    ensures keeps { Keeps (B.sight board.old) (B.sight board.new) result }
+    ensures keeps { Keeps board_fault.Failed (B.sight board.old) (B.sight board.new) result }
     ensures ends { IsTrue (B.sight board.old).told → (start : Sight) (first : List ℕ)
         → (B.sight board.old).world.input ≡ start.world.input
         → Serving start (B.sight board.old) first [] users
@@ -63,7 +65,7 @@ fn hear_all<B: Board>(
     line: &mut PartialLine,
     out: &mut Vec<u8>,
 ) -> Result<Ending, BoardFault>
-    ensures keeps { Keeps (B.sight board.old) (B.sight board.new) result }
+    ensures keeps { Keeps board_fault.Failed (B.sight board.old) (B.sight board.new) result }
     ensures ends { IsTrue (B.sight board.old).told → (start : Sight) (first : List ℕ)
         → (B.sight board.old).world.input ≡ start.world.input → line.old ≡ []
         → Serving start (B.sight board.old) first [] users.old
@@ -99,7 +101,7 @@ fn hear<B: Board>(
     piece: &mut Vec<u8>,
 ) -> Result<(), BoardFault>
     requires some { 1 ≤ max }
-    ensures keeps { Keeps (B.sight board.old) (B.sight board.new) result }
+    ensures keeps { Keeps board_fault.Failed (B.sight board.old) (B.sight board.new) result }
     ensures few { OnOk result (length piece.new.items ≤ max) }
     ensures hears { IsTrue (B.sight board.old).told
         → Hears (B.sight board.old) max result piece.new.items (B.sight board.new) }
@@ -119,7 +121,7 @@ fn serve_piece<B: Board>(
     piece: &[u8],
     out: &mut Vec<u8>,
 ) -> Result<(), BoardFault>
-    ensures keeps { Keeps (B.sight board.old) (B.sight board.new) result }
+    ensures keeps { Keeps board_fault.Failed (B.sight board.old) (B.sight board.new) result }
     ensures input { IsTrue (B.sight board.old).told
         → (B.sight board.new).world.input ≡ (B.sight board.old).world.input }
     ensures served { IsTrue (B.sight board.old).told
@@ -149,7 +151,7 @@ fn serve_byte<B: Board>(
     b: u8,
     out: &mut Vec<u8>,
 ) -> Result<(), BoardFault>
-    ensures keeps { Keeps (B.sight board.old) (B.sight board.new) result }
+    ensures keeps { Keeps board_fault.Failed (B.sight board.old) (B.sight board.new) result }
     ensures input { IsTrue (B.sight board.old).told
         → (B.sight board.new).world.input ≡ (B.sight board.old).world.input }
     ensures served { IsTrue (B.sight board.old).told
@@ -181,7 +183,7 @@ fn serve_last<B: Board>(
     line: &PartialLine,
     out: &mut Vec<u8>,
 ) -> Result<(), BoardFault>
-    ensures keeps { Keeps (B.sight board.old) (B.sight board.new) result }
+    ensures keeps { Keeps board_fault.Failed (B.sight board.old) (B.sight board.new) result }
     ensures input { IsTrue (B.sight board.old).told
         → (B.sight board.new).world.input ≡ (B.sight board.old).world.input }
     ensures served { IsTrue (B.sight board.old).told → (start : Sight) (first : List ℕ)

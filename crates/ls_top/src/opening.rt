@@ -1,8 +1,9 @@
 //! The opening of a directory: its users, by the settings file.
 ghost use Rattle.std.specs.Prelude.{◌≡◌, ◌≤◌, IsTrue, IfOk};
+ghost use Rattle.ls_board.specs.Keeping.{Keeps};
+ghost use Rattle.ls_board.specs.declared.action.BoardFault.TheVariants as board_fault;
 ghost use Rattle.ls_board.specs.Acts.{Sight};
 ghost use Rattle.ls_top.specs.Opening.{Opens, ReadsSettings, IsOpening, NamesSettings};
-ghost use Rattle.ls_top.specs.Serving.{Keeps};
 ghost use Rattle.ls_top.specs.UsersFile.{settings_0, file_of, IsForeign};
 ghost use Rattle.ls_top.specs.FoundUsers.{IsFound};
 
@@ -25,15 +26,12 @@ pub enum Opening {
 pub fn settings_name(alloc: Global) -> Result<Name, Memory>
     ensures name { IfOk result (λ name. name ≡ settings_0) }
 {
-    match Name::of(alloc, b"settings.0") {
-        Ok(name) => Ok(name),
-        Err(_) => Err(Memory),
-    }
+    Name::of(alloc, b"settings.0").map_err(|_| Memory)
 }
 
 /// Syncs, so that no file is touched any more, and reads the settings file.
 pub fn open<B: Board>(alloc: Global, board: &mut B) -> Result<Opening, BoardFault>
-    ensures keeps { Keeps (B.sight board.old) (B.sight board.new) result }
+    ensures keeps { Keeps board_fault.Failed (B.sight board.old) (B.sight board.new) result }
     ensures named { IfOk result NamesSettings }
     ensures opens { IsTrue (B.sight board.old).told
         → Opens (B.sight board.old) result (B.sight board.new) }
@@ -57,7 +55,7 @@ fn read_synced<B: Board>(
 ) -> Result<Answer, BoardFault>
     requires syncs { sync.now ≡ Action.Sync }
     requires reads { read.now ≡ Action.Read settings_0 }
-    ensures keeps { Keeps (B.sight board.old) (B.sight board.new) result }
+    ensures keeps { Keeps board_fault.Failed (B.sight board.old) (B.sight board.new) result }
     ensures reads { IsTrue (B.sight board.old).told
         → ReadsSettings (B.sight board.old) result out.new.items (B.sight board.new) }
 {

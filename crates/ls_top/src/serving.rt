@@ -1,9 +1,11 @@
 //! One line, from its command to its reply.
 ghost use Rattle.std.specs.Prelude.{◌≡◌, ◌≤◌, ◌+◌, ◌++◌, ◌∷◌, [], ℕ, List, length, take, IsTrue, OnOk, IfErr};
+ghost use Rattle.ls_board.specs.Keeping.{Keeps};
+ghost use Rattle.ls_board.specs.declared.action.BoardFault.TheVariants as board_fault;
 ghost use Rattle.ls_board.specs.Acts.{Sight, CanAct};
 ghost use Rattle.ls_board.specs.Effect.{weight_of};
 ghost use Rattle.ls_top.specs.Script.{served, users_after};
-ghost use Rattle.ls_top.specs.Serving.{Keeps, Serving, Settled, CutShort, ComesNext, CanPutAndSay};
+ghost use Rattle.ls_top.specs.Serving.{Serving, Settled, CutShort, ComesNext, CanPutAndSay};
 ghost use Rattle.ls_top.specs.UsersFile.{settings_0, file_of};
 ghost use Rattle.ls_top.specs.Vault.{IsVault};
 
@@ -27,7 +29,7 @@ pub fn serve_line<B: Board>(
     line: &[u8],
     out: &mut Vec<u8>,
 ) -> Result<(), BoardFault>
-    ensures keeps { Keeps (B.sight board.old) (B.sight board.new) result }
+    ensures keeps { Keeps board_fault.Failed (B.sight board.old) (B.sight board.new) result }
     ensures input { IsTrue (B.sight board.old).told
         → (B.sight board.new).world.input ≡ (B.sight board.old).world.input }
     ensures served { IsTrue (B.sight board.old).told
@@ -59,7 +61,7 @@ fn say<B: Board>(
     out: &mut Vec<u8>,
 ) -> Result<(), BoardFault>
     requires short { length text.now ≤ 64 }
-    ensures keeps { Keeps (B.sight board.old) (B.sight board.new) result }
+    ensures keeps { Keeps board_fault.Failed (B.sight board.old) (B.sight board.new) result }
     ensures input { IsTrue (B.sight board.old).told
         → (B.sight board.new).world.input ≡ (B.sight board.old).world.input }
     ensures served { IsTrue (B.sight board.old).told
@@ -83,7 +85,7 @@ fn say<B: Board>(
 /// Says a reply for which room is made.
 fn say_ready<B: Board>(board: &mut B, say: &Action, out: &mut Vec<u8>) -> Result<(), BoardFault>
     requires can { CanAct (B.sight board.old) say.now }
-    ensures keeps { Keeps (B.sight board.old) (B.sight board.new) result }
+    ensures keeps { Keeps board_fault.Failed (B.sight board.old) (B.sight board.new) result }
     ensures input { IsTrue (B.sight board.old).told → (text : List ℕ)
         → say.now ≡ Action.Say text
         → (B.sight board.new).world.input ≡ (B.sight board.old).world.input }
@@ -113,7 +115,7 @@ fn put_and_say<B: Board>(
     out: &mut Vec<u8>,
 ) -> Result<(), BoardFault>
     requires short { length text.now ≤ 64 }
-    ensures keeps { Keeps (B.sight board.old) (B.sight board.new) result }
+    ensures keeps { Keeps board_fault.Failed (B.sight board.old) (B.sight board.new) result }
     ensures input { IsTrue (B.sight board.old).told
         → (B.sight board.new).world.input ≡ (B.sight board.old).world.input }
     ensures served { IsTrue (B.sight board.old).told
@@ -149,7 +151,7 @@ fn put_synced<B: Board>(
     out: &mut Vec<u8>,
 ) -> Result<(), BoardFault>
     requires can { CanPutAndSay (B.sight board.old) put.now sync.now say.now }
-    ensures keeps { Keeps (B.sight board.old) (B.sight board.new) result }
+    ensures keeps { Keeps board_fault.Failed (B.sight board.old) (B.sight board.new) result }
     ensures can { OnOk result (CanAct (B.sight board.new) say.now) }
     ensures input { IsTrue (B.sight board.old).told
         → (B.sight board.new).world.input ≡ (B.sight board.old).world.input }

@@ -1,12 +1,13 @@
 //! The top call.
 ghost use Rattle.std.specs.Prelude.{◌≡◌, ◌≢◌, ◌≤◌, ◌<◌, ◌+◌, ◌^◌, ◌++◌, ◌⊎◌, ◌↔◌, [], ℕ, List, length, take, drop, map, string_bytes, IsTrue, IfOk, IfErr};
+ghost use Rattle.ls_board.specs.Keeping.{Keeps};
+ghost use Rattle.ls_board.specs.declared.action.BoardFault.TheVariants as board_fault;
 ghost use Rattle.ls_board.specs.declared.action.Part.{Part as Parts};
 ghost use Rattle.ls_board.specs.Acts.{Rose};
 ghost use Rattle.ls_board.specs.Effect.{file_at};
 ghost use Rattle.ls_top.specs.Runs.{StandsFor, HasForeignFile, SameButTouched, IsFault, Gives, SaysFront, HoldsFront, IsServed, CallsInTurn, EndsWithPut};
 ghost use Rattle.ls_top.specs.RunEnds.{IsServeStatus, EndsAs, StopsAs};
 ghost use Rattle.ls_top.specs.Script.{lines_of, parted};
-ghost use Rattle.ls_top.specs.Serving.{Keeps};
 ghost use Rattle.ls_top.specs.UsersFile.{settings_0};
 ghost use Rattle.ls_top.specs.Words.{IsRun};
 
@@ -110,7 +111,7 @@ pub fn run<B: Board>(alloc: Global, words: &[String], board: &mut B) -> Status
 
 /// Opens the directory and serves the script.
 fn serve<B: Board>(alloc: Global, board: &mut B) -> Result<Status, BoardFault>
-    ensures keeps { Keeps (B.sight board.old) (B.sight board.new) result }
+    ensures keeps { Keeps board_fault.Failed (B.sight board.old) (B.sight board.new) result }
     ensures status { IfOk result IsServeStatus }
     ensures ends { IsTrue (B.sight board.old).told
         → IfOk result (EndsAs (B.sight board.old) (B.sight board.new)) }

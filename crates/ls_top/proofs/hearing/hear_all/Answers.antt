@@ -44,6 +44,8 @@ returns-in_err-serve_piece-clause-cut g c = λ told start first same empty servi
 pub loop-left-preserved : goal.loop-left-preserved
 loop-left-preserved g c = record {
   told = c.in_ok-serve_piece.ensures.keeps.told ∙ c.in_ok-hear.ensures.keeps.told ∙ c.loop-left.invariant.told;
+  never_fails = c.in_ok-serve_piece.ensures.keeps.never_fails ∙ c.in_ok-hear.ensures.keeps.never_fails ∙ c.loop-left.invariant.never_fails;
+  slots = c.in_ok-serve_piece.ensures.keeps.slots ∙ c.in_ok-hear.ensures.keeps.slots ∙ c.loop-left.invariant.slots;
   faults = c.in_ok-serve_piece.ensures.keeps.quiet ∙ c.in_ok-hear.ensures.keeps.quiet ∙ c.loop-left.invariant.faults;
   most = omega arith;
   heard = λ told start first same empty serving.

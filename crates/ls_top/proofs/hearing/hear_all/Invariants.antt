@@ -7,6 +7,8 @@ use Rattle.ls_top.proofs.hearing.hear_all.Given as goal
 abbrev pub invariant-loop-left : goal.invariant-loop-left
 invariant-loop-left g l = record {
   told : (g.B.Board.sight l.board).told ≡ (g.B.Board.sight l.fn.board).told;
+  never_fails : (g.B.Board.sight l.board).never_fails ≡ (g.B.Board.sight l.fn.board).never_fails;
+  slots : (g.B.Board.sight l.board).slots ≡ (g.B.Board.sight l.fn.board).slots;
   faults : (g.B.Board.sight l.board).faults ≡ (g.B.Board.sight l.fn.board).faults;
   most : l.left ≤ 2 ^ 30;
   heard : IsTrue (g.B.Board.sight l.fn.board).told

@@ -17,6 +17,8 @@ returns-in_err-serve_byte-clause-cut g c = λ told start first heard rest input 
 pub loop-b-preserved : goal.loop-b-preserved
 loop-b-preserved g c = record {
   told = c.in_ok-serve_byte.ensures.keeps.told ∙ c.loop-b.invariant.told;
+  never_fails = c.in_ok-serve_byte.ensures.keeps.never_fails ∙ c.loop-b.invariant.never_fails;
+  slots = c.in_ok-serve_byte.ensures.keeps.slots ∙ c.loop-b.invariant.slots;
   faults = c.in_ok-serve_byte.ensures.keeps.quiet ∙ c.loop-b.invariant.faults;
   input = λ told. c.in_ok-serve_byte.ensures.input (subst (λ (b : Bool). IsTrue b) (sym c.loop-b.invariant.told) told) ∙ c.loop-b.invariant.input told;
   progress = λ told start first heard rest input progress.

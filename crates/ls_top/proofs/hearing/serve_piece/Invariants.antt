@@ -6,6 +6,8 @@ use Rattle.ls_top.proofs.hearing.serve_piece.Given as goal
 abbrev pub invariant-loop-b : goal.invariant-loop-b
 invariant-loop-b g l = record {
   told : (g.B.Board.sight l.board).told ≡ (g.B.Board.sight l.fn.board).told;
+  never_fails : (g.B.Board.sight l.board).never_fails ≡ (g.B.Board.sight l.fn.board).never_fails;
+  slots : (g.B.Board.sight l.board).slots ≡ (g.B.Board.sight l.fn.board).slots;
   faults : (g.B.Board.sight l.board).faults ≡ (g.B.Board.sight l.fn.board).faults;
   input : IsTrue (g.B.Board.sight l.fn.board).told → (g.B.Board.sight l.board).world.input ≡ (g.B.Board.sight l.fn.board).world.input;
   progress : IsTrue (g.B.Board.sight l.fn.board).told

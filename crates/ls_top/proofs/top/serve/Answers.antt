@@ -1,4 +1,4 @@
-use Rattle.std.proofs.Common.{Bool, IsTrue, refl, sym, ap, subst}
+use Rattle.std.proofs.Common.{Bool, IsTrue, refl, sym, subst}
 use Rattle.std.proofs.lemmas.Result.{err_from_is_err_and}
 use Rattle.ls_top.specs.declared.hearing.Ending.{Ending}
 use Rattle.ls_top.specs.declared.opening.Opening.{Opening}
