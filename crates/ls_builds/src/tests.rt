@@ -22,7 +22,7 @@ fn blank_board(alloc: Global, slots: u32) -> Result<MemBoard, Fail> {
     if slots > 256 {
         return Err(Fail::from("too many slots"));
     }
-    board_on(alloc, World::blank(alloc, slots)?)
+    Ok(board_on(alloc, World::blank(alloc, slots)?)?)
 }
 
 /// The world behind the user of a case.

@@ -4,7 +4,8 @@ use Rattle.ls_board.specs.declared.action.Action.{Action}
 use Rattle.ls_board.specs.declared.action.Answer.{Answer}
 use Rattle.ls_board.specs.declared.action.BoardFault.{BoardFault}
 use Rattle.ls_board.specs.declared.world.World.{World}
-use Rattle.ls_board.specs.Acts.{Sight, CanAct, Acts, Moves}
+use Rattle.ls_board.specs.declared.action.Part.{Part}
+use Rattle.ls_board.specs.Acts.{Sight, CanAct, Acts, Moves, Rose}
 use Rattle.ls_board.specs.Effect.{weight_of, Applies, IsSound}
 use Rattle.ls_board.specs.Runs.{after_all, AllApply, AllSound, CanRun, Did}
 
@@ -46,6 +47,9 @@ module _ (old ready : Sight) (same : ready ≡ record old { actions = ready.acti
   moved a answer out new acts told =
       let moves : Moves (record old { actions = ready.actions; bytes = ready.bytes }) a answer out new = subst (λ (s : Sight). Moves s a answer out new) same (acts.moves (told_here told)) in
       record { past = moves.past; done = moves.done; failed = moves.failed; lacking = moves.lacking }
+
+  pub rose_since : (part : Part) {now : ℕ} → Rose (ready.faults part) now → Rose (old.faults part) now
+  rose_since part {now} rose = subst (λ (n : ℕ). Rose n now) (ap (λ (s : Sight). s.faults part) same) rose
 
   pub ran : (plan : List Action) (new : Sight) → IsTrue old.told → Did ready plan new → new.world ≡ after_all old.world plan
   ran plan new told did = did.world (told_here told) ∙ ap (λ (w : World). after_all w plan) same_world

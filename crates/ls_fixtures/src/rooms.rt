@@ -1,6 +1,7 @@
 //! Actions with the room that they need.
-ghost use Rattle.std.specs.Prelude.{◌≡◌, IsTrue, IfOk, OnOk};
-ghost use Rattle.ls_board.specs.Acts.{Sight, Moves};
+ghost use Rattle.std.specs.Prelude.{◌≡◌, IsTrue, IfOk, IsOk, OnOk};
+ghost use Rattle.ls_board.specs.Acts.{Sight, Moves, Rose};
+ghost use Rattle.ls_board.specs.declared.action.Part.{Part as Parts};
 ghost use Rattle.ls_board.specs.Effect.{Applies, IsSound};
 ghost use Rattle.ls_board.specs.Runs.{after_all, AllApply, AllSound};
 
@@ -36,6 +37,10 @@ pub fn run_with_room<B: Board>(
         → AllApply (B.sight board.old).world plan.now }
     ensures done { IsTrue (B.sight board.old).told → IfOk result (λ ran. OnOk ran
         ((B.sight board.new).world ≡ after_all (B.sight board.old).world plan.now)) }
+    // A fault comes only where a count rose.
+    ensures complete { ((part : Parts)
+        → ¬ (Rose ((B.sight board.old).faults part) ((B.sight board.new).faults part)))
+        → IfOk result (λ ran. IsOk ran) }
 {
     let (actions, bytes) = plan.weight();
     board.ready(alloc, actions, bytes)?;

@@ -21,6 +21,11 @@ const ONE_USER_01: &str = "0101000000000000000000000000000200000000000000000000"
 const TWO_USERS: &str = "020200000000000000000000000000000002000000000000000000000000\
     0100000000000000000000000400000000000000000000";
 
+/// Users 0, 1 and 2, with protectors 2, 4 and 6.
+const THREE_USERS: &str = "020300000000000000000000000000000002000000000000000000000000\
+    01000000000000000000000004000000000000000000000000\
+    0200000000000000000000000600000000000000000000";
+
 /// The change that puts user 1.
 const PUT_USER_1: &str = "0100000001000000000000000000000004000000000000000000";
 
@@ -29,6 +34,8 @@ struct Case {
     shows: &'static str,
     /// What each settings file begins with; there is none for no bytes.
     first: &'static [&'static str],
+    /// How often the first one puts user 1 behind that.
+    puts: u32,
     second: &'static [&'static str],
     /// The record that the files say, and the one that is committed.
     old: &'static str,
@@ -40,10 +47,11 @@ struct Case {
     written: &'static [&'static str],
 }
 
-static CASES: [Case; 5] = [
+static CASES: [Case; 6] = [
     Case {
         shows: "the first commit",
         first: &[],
+        puts: 0,
         second: &[],
         old: NO_USER,
         next: ONE_USER,
@@ -54,6 +62,7 @@ static CASES: [Case; 5] = [
     Case {
         shows: "an entry",
         first: &["a500000000000000018000001c", ONE_USER],
+        puts: 0,
         second: &[],
         old: ONE_USER,
         next: TWO_USERS,
@@ -70,6 +79,7 @@ static CASES: [Case; 5] = [
     Case {
         shows: "a whole record in a file whose gate is closed",
         first: &["a500000000000000010000001c", ONE_USER],
+        puts: 0,
         second: &[],
         old: ONE_USER,
         next: TWO_USERS,
@@ -80,6 +90,7 @@ static CASES: [Case; 5] = [
     Case {
         shows: "a whole record in a file whose gate is open",
         first: &["a500000000000000020000001c", ONE_USER],
+        puts: 0,
         second: &["a5000000000000000180000003", NO_USER],
         old: ONE_USER,
         next: TWO_USERS,
@@ -90,12 +101,24 @@ static CASES: [Case; 5] = [
     Case {
         shows: "a body of format 01",
         first: &["a500000000000000018000001a", ONE_USER_01],
+        puts: 0,
         second: &[],
         old: ONE_USER,
         next: TWO_USERS,
         calls: 9,
         file: b"settings.1",
         written: &["a5000000000000000280000035", TWO_USERS, "00"],
+    },
+    Case {
+        shows: "a journal that has no place for the entry",
+        first: &["a500000000000000018000001c", ONE_USER],
+        puts: 130,
+        second: &[],
+        old: TWO_USERS,
+        next: THREE_USERS,
+        calls: 9,
+        file: b"settings.1",
+        written: &["a500000000000000848000004e", THREE_USERS, "00"],
     },
 ];
 
@@ -111,10 +134,19 @@ static PICKS: [(&str, Pick); 5] = [
     ("an image with an open gate", Pick::Noise(OPENS)),
 ];
 
+/// A board with the settings files of the case.
+fn begun(alloc: Global, case: &Case) -> Result<MemBoard, Fail> {
+    let mut first = Vec::from_slice(alloc, case.first)?;
+    for _ in 0..case.puts {
+        first.extend_from_slice(&["a50000001a", PUT_USER_1])?;
+    }
+    board_with(alloc, &first, case.second)
+}
+
 /// A board on which the record was committed.
 fn committed(alloc: Global, case: &Case) -> Result<MemBoard, Fail> {
     let next = record_of(alloc, case.next)?;
-    let mut board = board_with(alloc, case.first, case.second)?;
+    let mut board = begun(alloc, case)?;
     commit(alloc, &mut board, next)?;
     Ok(board)
 }
@@ -133,8 +165,11 @@ fn said_by(alloc: Global, board: &MemBoard, moment: u64, pick: Pick) -> Result<B
     if moment > board.moment() {
         return Err(Fail::from("no such moment"));
     }
-    let mut image = board_on(alloc, board.cut(moment, pick)?)?;
-    loaded(alloc, &mut image)
+    let image = board.cut(moment, pick)?;
+    if image.slots.len() > 256 {
+        return Err(Fail::from("too many slots"));
+    }
+    loaded(alloc, &mut board_on(alloc, image)?)
 }
 
 /// Whether each image says the record that it is to say.

@@ -1,5 +1,5 @@
 //! Settings over a board in memory: what is loaded, looked at and committed.
-ghost use Rattle.std.specs.Prelude.{IsTrue};
+ghost use Rattle.std.specs.Prelude.{◌≡◌, IsTrue};
 ghost use Rattle.ls_board.specs.Acts.{Sight};
 ghost use Rattle.ls_settings.specs.Loaded.{IsReady};
 
@@ -22,7 +22,9 @@ pub fn bytes_of(alloc: Global, parts: &[&str]) -> Result<Vec<u8>, Fail> {
 }
 
 /// Puts a file of 4,096 bytes that begins with these; none for no parts.
-fn put_settings(alloc: Global, world: &mut World, name: &[u8], parts: &[&str]) -> Result<(), Fail> {
+fn put_settings(alloc: Global, world: &mut World, name: &[u8], parts: &[&str]) -> Result<(), Fail>
+    ensures slots { world.new.slots ≡ world.old.slots }
+{
     if parts.is_empty() {
         return Ok(());
     }
@@ -36,7 +38,7 @@ pub fn board_with(alloc: Global, first: &[&str], second: &[&str]) -> Result<MemB
     let mut world = World::blank(alloc, 0)?;
     put_settings(alloc, &mut world, b"settings.0", first)?;
     put_settings(alloc, &mut world, b"settings.1", second)?;
-    board_on(alloc, world)
+    Ok(board_on(alloc, world)?)
 }
 
 /// Makes a prepared commit.

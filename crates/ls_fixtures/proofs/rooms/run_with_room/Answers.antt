@@ -1,5 +1,5 @@
 use Rattle.std.proofs.lemmas.Result.{on_ok_weaker}
-use Rattle.ls_fixtures.proofs.RoomLemmas.{can_run, ran}
+use Rattle.ls_fixtures.proofs.RoomLemmas.{can_run, ran, rose_since}
 use Rattle.ls_fixtures.proofs.rooms.run_with_room.Goals as goal
 
 pub run_plan-requires : goal.run_plan-requires
@@ -12,4 +12,6 @@ returns g c = record {
   done = λ told.
       on_ok_weaker c.run_plan.result (ran (g.B.Board.sight c.args.board.now) (g.B.Board.sight c.ready.new.self) c.ready.ensures.same c.args.plan.now (g.B.Board.sight c.run_plan.new.board) told)
       c.run_plan.ensures.done;
+  complete = λ none.
+      c.run_plan.ensures.complete (λ part rose. none part (rose_since (g.B.Board.sight c.args.board.now) (g.B.Board.sight c.ready.new.self) c.ready.ensures.same part rose));
 }
