@@ -6,17 +6,17 @@ ghost use Rattle.ls_memboard.specs.Replay.{replay};
 use crate::devices::Devices;
 use crate::memory::MemBoard;
 use crate::redo::redo;
-use ls_board::{GkTable, KeyTable, MomentList, World};
-use ls_bytes::{Bytes, Memory};
+use ls_board::{GkTable, KeyTable, World};
+use ls_bytes::{Bytes, Memory, Rows};
 use std::alloc::Global;
 
-/// The same moments again.
-fn copied(alloc: Global, moments: &[u64]) -> Result<MomentList, Memory>
-    ensures same { IfOk result (λ list. list ≡ moments.now) }
+/// The same items again.
+fn copied<T: Copy + Drop>(alloc: Global, items: &[T]) -> Result<Rows<T>, Memory>
+    ensures same { IfOk result (λ list. list ≡ items.now) }
 {
-    let mut list = MomentList::new(alloc);
-    for moment in moments {
-        list.push(*moment)?;
+    let mut list = Rows::new(alloc);
+    for item in items {
+        list.push(*item)?;
     }
     Ok(list)
 }

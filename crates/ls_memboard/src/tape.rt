@@ -29,10 +29,8 @@ impl<T: Copy> Tape<T> {
     pub(crate) fn of(alloc: Global, items: &[T]) -> Result<Tape<T>, Memory>
         ensures same { IfOk result (λ t. t ≡ items.now) }
     {
-        Ok(Tape {
-            items: Vec::from_slice(alloc, items)?,
-            at: 0,
-        })
+        let items = Vec::from_slice(alloc, items)?;
+        Ok(Tape { items, at: 0 })
     }
 
     /// What is left.

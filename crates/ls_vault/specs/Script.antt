@@ -1,6 +1,6 @@
 -- A script: its lines, their replies, and the state after each command.
 use Rattle.std.specs.Prelude.{ℕ, zero, suc, ◌++◌, ◌==◌, Bool, false, if◌then◌else◌, List, [], ◌∷◌}
-use Rattle.std.specs.Prelude.{length, take, drop, map, replicate, flat_map, count_by, Option, Some}
+use Rattle.std.specs.Prelude.{length, take, drop, map, flat_map, count_by, Option, Some}
 use Rattle.std.specs.Prelude.{None, Result, Ok, Err, unwrap_or, option_map}
 use Rattle.std.specs.Prelude.{option_and_then}
 use Rattle.ls_credential.specs.declared.kind.Kind.{Kind}

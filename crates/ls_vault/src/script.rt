@@ -120,7 +120,7 @@ fn served_line<'a>(
     ensures stage { IfOk result (λ x. x.stage ≡ (served_as slots stage.entry (Ok line)).stage) }
 {
     let place = line.reply_place();
-    let standing = standing_of(&stage.state, line.token_user());
+    let standing = standing_asked(&stage.state, line.token_user());
     let commands = line.commands(alloc, standing)?;
     let done = carried(alloc, slots, stage, commands.as_slice())?;
     let printed = printed_for(alloc, place, done.replies.as_slice())?;
@@ -130,13 +130,18 @@ fn served_line<'a>(
     })
 }
 
-/// How the user of a line stands: whether it is opened, and its stored kind.
-fn standing_of(state: &State, user: Option<u32>) -> Option<(bool, Kind)>
+/// How the user of a line stands, if the line asks for that.
+fn standing_asked(state: &State, user: Option<u32>) -> Option<(bool, Kind)>
     ensures same { result ≡ option_and_then (standing_of state.now) user }
 {
-    let user = user?;
-    let u = user_of(state.vault.users.as_slice(), user)?;
-    Some((is_opened(state, user), u.credential.kind))
+    user.and_then(|user| standing_of(state, user))
+}
+
+/// How a user stands: whether it is opened, and its stored kind.
+fn standing_of(state: &State, user: u32) -> Option<(bool, Kind)>
+    ensures same { result ≡ standing_of state.now user }
+{
+    user_of(state.vault.users.as_slice(), user).map(|u| (is_opened(state, user), u.credential.kind))
 }
 
 /// The replies to commands, and the stage after them.

@@ -86,8 +86,6 @@ fn takes_moment(state: &State, command: &Command) -> bool
 fn has_kind(state: &State, user: u32, kind: Kind) -> bool
     ensures same { result ≡ has_kind (user_of state.now.vault.users user) kind }
 {
-    match user_of(state.vault.users.as_slice(), user) {
-        Some(u) => is_same_kind(kind, u.credential.kind),
-        None => false,
-    }
+    let found = user_of(state.vault.users.as_slice(), user);
+    found.is_some_and(|u| is_same_kind(kind, u.credential.kind))
 }
