@@ -6,8 +6,6 @@ mod kind;
 mod parsing;
 mod personal;
 mod sp_blob;
-#[cfg(test)]
-mod tests;
 
 pub use fault::BlobFault;
 pub use kind::BlobKind;

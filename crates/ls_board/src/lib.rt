@@ -22,6 +22,3 @@ pub use laws::untouched_worlds_are_left;
 pub use plan::{Plan, PlanFault, run_plan};
 pub use touch::{Span, SpanList, Touch, TouchRow, TouchTable};
 pub use world::{MomentList, SlotTable, World};
-
-#[cfg(test)]
-mod tests;

@@ -16,6 +16,3 @@ pub use name::{Name, NameFault};
 pub use put::{put_be32, put_be64, put_bytes, put_u8};
 pub use reader::{Reader, Short};
 pub use rows::{IdList, NameList, Rows, SlotList, UserList};
-
-#[cfg(test)]
-mod tests;

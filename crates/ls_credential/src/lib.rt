@@ -7,8 +7,6 @@ mod kind;
 mod measure;
 mod metrics;
 mod stretch;
-#[cfg(test)]
-mod tests;
 
 pub use credential::Credential;
 pub use fault::CredentialFault;

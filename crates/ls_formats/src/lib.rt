@@ -31,6 +31,3 @@ pub use parts::Parts;
 pub use pwd::PwdData;
 pub use side::Side;
 pub use slot::SlotFile;
-
-#[cfg(test)]
-mod tests;

@@ -8,6 +8,3 @@ mod verify;
 
 pub use gatekeeper::Gatekeeper;
 pub use verify::Verify;
-
-#[cfg(test)]
-mod tests;

@@ -10,8 +10,6 @@ mod hash;
 mod opening;
 mod sealing;
 mod table;
-#[cfg(test)]
-mod tests;
 mod xor;
 
 pub use aes::Aes256;

@@ -8,8 +8,6 @@ mod laws;
 mod number;
 mod prefix;
 mod rest;
-#[cfg(test)]
-mod tests;
 mod untested;
 
 pub use digits::Digits;

@@ -12,6 +12,3 @@ pub use derivation::sp800;
 pub use mac::{hmac256, hmac256_joined};
 pub use pbkdf2::{pbkdf2_fill, pbkdf2_once};
 pub use personal::{phash, phash2};
-
-#[cfg(test)]
-mod tests;

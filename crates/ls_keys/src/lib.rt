@@ -8,6 +8,3 @@ mod store;
 pub use cell::ResumeCell;
 pub use fault::KeyFault;
 pub use store::KeyStore;
-
-#[cfg(test)]
-mod tests;

@@ -13,6 +13,3 @@ pub use laws::{
 };
 pub use names::{names_enrolled, names_file, names_key};
 pub use rows::{has_credential, has_secure, is_armed};
-
-#[cfg(test)]
-mod tests;

@@ -15,8 +15,6 @@ mod parts;
 mod record;
 mod row;
 mod rows;
-#[cfg(test)]
-mod tests;
 mod writing;
 
 pub use edit::Edit;

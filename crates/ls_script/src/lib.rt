@@ -8,8 +8,6 @@ mod print;
 mod read;
 mod reply;
 mod script_line;
-#[cfg(test)]
-mod tests;
 mod verb;
 mod words;
 

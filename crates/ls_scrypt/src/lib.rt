@@ -10,6 +10,3 @@ mod xor;
 
 pub use scrypt::{Cost, stretch};
 pub use xor::xor_into;
-
-#[cfg(test)]
-mod tests;

@@ -21,6 +21,3 @@ pub use laws::{
 };
 pub use pushing::Place;
 pub use token::token_plan;
-
-#[cfg(test)]
-mod tests;

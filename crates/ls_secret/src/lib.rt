@@ -7,8 +7,6 @@ mod fault;
 mod personal;
 mod secret;
 mod subkey;
-#[cfg(test)]
-mod tests;
 
 pub use derived::Derived;
 pub use fault::SecretFault;

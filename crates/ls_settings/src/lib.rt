@@ -19,6 +19,3 @@ mod settings;
 pub use fault::{OpenRefusal, PrepareFault};
 pub use plan::{CommitPlan, Committed};
 pub use settings::Settings;
-
-#[cfg(test)]
-mod tests;

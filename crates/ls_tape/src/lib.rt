@@ -6,6 +6,3 @@ mod noise;
 
 pub use moments::{later_moments, moments_taken, next_moment};
 pub use noise::{drawn, later_noise};
-
-#[cfg(test)]
-mod tests;

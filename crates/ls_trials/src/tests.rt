@@ -14,6 +14,7 @@ mod calls;
 mod commits;
 mod images;
 mod plans;
+mod prepared;
 mod settings;
 
 /// The text `opened`, sealed by another program under the key that `K` puts.

@@ -17,6 +17,3 @@ pub use opening::{opened_layers, opened_under};
 pub use parts::{HeldParts, PartFiles};
 pub use protector::{Protector, Purpose};
 pub use token::{completes, seals_token};
-
-#[cfg(test)]
-mod tests;

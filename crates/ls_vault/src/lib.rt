@@ -11,15 +11,11 @@ mod machine;
 mod numbers;
 mod refusal;
 mod revealed;
-#[cfg(test)]
-mod runs;
 mod script;
 mod session;
 mod stage;
 mod state;
 mod table;
-#[cfg(test)]
-mod tests;
 mod token;
 mod token_changes;
 mod tokens;

@@ -8,6 +8,3 @@ mod weaver;
 pub use slot::{Slot, SlotRead};
 pub use throttle::timeout;
 pub use weaver::Weaver;
-
-#[cfg(test)]
-mod tests;

@@ -1,5 +1,5 @@
 //! Worked values of the throttle and of slots.
-use crate::{Slot, SlotRead, Weaver, timeout};
+use ls_weaver::{Slot, SlotRead, Weaver, timeout};
 use std::test::Fail;
 
 #[test]

@@ -1,5 +1,5 @@
-//! Each call that may find no memory, once with ample memory.
-use crate::{
+//! Plans, worlds and the tables of the board: each call that may find no memory, once with ample memory.
+use ls_board::{
     Action, Counter, FileRow, FileTable, GkRow, GkTable, IdTable, KeyRow, KeyTable, Plan, Touch,
     TouchRow, TouchTable, World,
 };

@@ -1,7 +1,6 @@
 //! Where a text that is no line leaves the grammar.
 
-use crate::read::line;
-use ls_grammar::LineFault;
+use ls_script::{LineFault, line};
 use std::alloc::{AllocError, Global};
 use std::test::*;
 

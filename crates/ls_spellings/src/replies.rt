@@ -1,11 +1,12 @@
 //! The texts of replies.
 
-use crate::print::{print_fault, print_reply};
-use crate::reply::{Refusal, Reply, Revealed, RevealedList, StatusRow, TokenState};
 use ls_bytes::{Name, UserList};
 use ls_credential::CredentialFault::{Alphabet, Length, Repeat};
 use ls_credential::{Credential, Kind, Metrics};
-use ls_grammar::LineFault;
+use ls_script::{
+    LineFault, Refusal, Reply, Revealed, RevealedList, StatusRow, TokenState, print_fault,
+    print_reply,
+};
 use ls_secret::{Derived, Subkey};
 use std::alloc::Global;
 use std::process::Abort;

@@ -1,11 +1,8 @@
 //! What a line says, and the commands that it stands for.
 
-use crate::command::Command;
-use crate::read::line;
-use crate::script_line::ScriptLine;
 use ls_credential::CredentialFault::{Alphabet, Length, Repeat};
 use ls_credential::{CredentialFault, Kind};
-use ls_grammar::LineFault;
+use ls_script::{Command, LineFault, ScriptLine, line};
 use std::alloc::Global;
 use std::test::*;
 

@@ -1,6 +1,6 @@
 //! Openings of what OpenSSL sealed, and a key in the cell.
-use super::*;
 use ls_board::KeyTable;
+use ls_keys::{KeyFault, KeyStore, ResumeCell};
 use std::test::Fail;
 
 /// Sixteen zeros, sealed under a key of zeros with an iv of zeros.

@@ -1,6 +1,6 @@
 //! Values from outside: of OpenSSL through Python's `hashlib` and `cryptography`.
-use super::*;
 use hex::FromHex;
+use ls_blob::{BlobFault, BlobKind, SpBlob, open_under, seal_under};
 use ls_bytes::hex_lower;
 use ls_gcm::OpenFault;
 use std::test::Fail;

@@ -1,7 +1,7 @@
 //! Values from outside: of the standards, and of OpenSSL through Python's `cryptography`.
-use super::*;
 use hex::FromHex;
 use ls_bytes::hex_lower;
+use ls_gcm::{Aes256, HTable, OpenFault, open, seal, times_h};
 use std::alloc::{AllocError, Global};
 use std::test::Fail;
 

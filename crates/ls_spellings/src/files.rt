@@ -1,5 +1,9 @@
-use super::*;
+//! Names and contents of protector files.
 use ls_credential::Kind;
+use ls_formats::{
+    FileName, FilePart, FormatFault, HandleFile, MetricsFile, PartName, Parts, PwdData, Side,
+    SlotFile, file_fault,
+};
 use std::alloc::{AllocError, Global};
 use std::test::*;
 

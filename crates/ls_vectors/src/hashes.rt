@@ -1,14 +1,8 @@
 //! Values of other programs: RFC 4231, RFC 7914 and OpenSSL. The texts are hex digits.
-use super::*;
-use ls_bytes::{Memory, hex_lower};
+use crate::has_text;
+use ls_hash::{hmac256, hmac256_joined, pbkdf2_once, phash, phash2, sp800};
 use sha2::{Digest, Sha256};
-use std::alloc::Global;
 use std::test::Fail;
-
-/// Whether these bytes have this hex text.
-fn has_text(alloc: Global, bytes: &[u8], text: &str) -> Result<bool, Memory> {
-    Ok(hex_lower(alloc, bytes)?.as_slice() == text.as_bytes())
-}
 
 #[test]
 fn sha256_of_abc(rt: HostRuntime) -> Result<(), Fail> {

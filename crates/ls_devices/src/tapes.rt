@@ -1,5 +1,5 @@
 //! What is taken of short tapes, up to their ends.
-use super::*;
+use ls_tape::{drawn, later_moments, later_noise, moments_taken, next_moment};
 use std::test::Fail;
 
 static MOMENTS: [(&[u64], u64, &[u64]); 3] = [(&[], 0, &[]), (&[7], 7, &[7]), (&[7, 9], 7, &[9])];

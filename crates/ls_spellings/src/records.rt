@@ -1,7 +1,8 @@
-use super::*;
-use crate::fault::RecordFault::{Extra, Limit, Order, Short};
-use ls_bytes::{Bytes, IdList};
+//! Records and their changes.
+use ls_bytes::{Bytes, IdList, Memory};
 use ls_credential::Kind;
+use ls_record::RecordFault::{Extra, Limit, Order, Short};
+use ls_record::{Armed, Edit, Record, RecordFault, RowList, UserRow};
 use std::alloc::Global;
 use std::test::*;
 
@@ -61,14 +62,23 @@ fn changed(alloc: Global, record: &str, text: &str) -> Result<Bytes, Fail> {
     Ok(made.print(alloc)?)
 }
 
-/// The text of the change from a record to the next; none is empty.
-fn change_to(alloc: Global, from: &str, to: &str) -> Result<Bytes, Fail> {
-    let record = record_of(alloc, from)?;
-    let next = record_of(alloc, to)?;
-    match record.edit_to(alloc, &next)? {
-        Some(edit) => Ok(edit.print(alloc)?),
-        None => Ok(Bytes::of(alloc, &[])?),
+/// The text of a change; none is empty.
+fn edit_text(alloc: Global, edit: &Option<Edit>) -> Result<Bytes, Memory> {
+    match edit {
+        Some(edit) => edit.print(alloc),
+        None => Bytes::of(alloc, &[]),
     }
+}
+
+/// The text of the change from a record to the one with this hex text.
+fn change_from(alloc: Global, record: &Record, to: &str) -> Result<Bytes, Fail> {
+    let next = record_of(alloc, to)?;
+    Ok(edit_text(alloc, &record.edit_to(alloc, &next)?)?)
+}
+
+/// The text of the change from a record to the next.
+fn change_to(alloc: Global, from: &str, to: &str) -> Result<Bytes, Fail> {
+    change_from(alloc, &record_of(alloc, from)?, to)
 }
 
 /// The layout of a row in a change.

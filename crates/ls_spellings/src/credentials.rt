@@ -1,8 +1,7 @@
-use crate::credential::Credential;
-use crate::fault::CredentialFault::{Alphabet, Length, Repeat};
-use crate::kind::Kind;
-use crate::kind::Kind::{Empty, Password, Pattern, Pin};
-use crate::metrics::Metrics;
+//! Credentials: the rules of each kind, and what is counted of a text.
+use ls_credential::CredentialFault::{Alphabet, Length, Repeat};
+use ls_credential::Kind::{Empty, Password, Pattern, Pin};
+use ls_credential::{Credential, Kind, Metrics};
 use std::test::*;
 
 #[test]

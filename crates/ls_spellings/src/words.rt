@@ -1,5 +1,6 @@
-use crate::rest::{Rest, first};
+//! The words of a line, read from left to right.
 use ls_credential::Kind;
+use ls_grammar::{Rest, first};
 use std::test::*;
 
 fn behind(text: &[u8]) -> Rest<'_> {

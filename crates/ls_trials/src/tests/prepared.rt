@@ -1,10 +1,9 @@
-//! What two settings files say, and what is prepared of it. The bytes are written out by hand.
-use crate::fault::{OpenRefusal, PrepareFault};
-use crate::files::Pair;
-use crate::found::settings_of;
-use crate::settings::Settings;
-use ls_bytes::Bytes;
-use ls_record::Record;
+//! What two settings files say when they are opened, and what is prepared of it. The bytes are
+//! written out by hand.
+
+use crate::tests::settings::board_with;
+use ls_fixtures::{open_settings, record_of};
+use ls_settings::{OpenRefusal, PrepareFault, Settings};
 use std::alloc::Global;
 use std::test::Fail;
 
@@ -18,42 +17,19 @@ const TWO_USERS: &str = "0202000000000000000000000000000000020000000000000000000
 /// The change that puts user 1.
 const PUT_USER_1: &str = "0100000001000000000000000000000004000000000000000000";
 
-/// No file for no digits; else one of 4,096 bytes that begins with them.
-fn file(alloc: Global, digits: &[&str]) -> Result<Option<Bytes>, Fail> {
-    let mut bytes = Vec::new(alloc);
-    for part in digits {
-        bytes.extend_from_slice(&hex::decode(alloc, part)?)?;
-    }
-    if bytes.is_empty() {
-        return Ok(None);
-    }
-    bytes.resize(4096, 0)?;
-    Ok(Some(Bytes::from(bytes)))
-}
-
+/// The settings of two files that begin with these bytes.
 fn opened(alloc: Global, first: &[&str], second: &[&str]) -> Result<Settings, Fail> {
-    let files = Pair {
-        first: file(alloc, first)?,
-        second: file(alloc, second)?,
-    };
-    Ok(settings_of(alloc, &files).ok().ok_or("settings")?)
+    let mut board = board_with(alloc, first, second)?;
+    open_settings(alloc, &mut board)
 }
 
 /// The place of the fault in the first file.
 fn fault_in(alloc: Global, first: &[&str]) -> Result<u32, Fail> {
-    let files = Pair {
-        first: file(alloc, first)?,
-        second: None,
-    };
-    match settings_of(alloc, &files) {
+    let mut board = board_with(alloc, first, &[])?;
+    match Settings::load(alloc, &mut board) {
         Err(OpenRefusal::Foreign { at, .. }) => Ok(at),
         _ => Err(Fail::from("no fault")),
     }
-}
-
-fn record(alloc: Global, digits: &str) -> Result<Record, Fail> {
-    let bytes = hex::decode(alloc, digits)?;
-    Ok(Record::parse(alloc, &bytes).ok().ok_or("record")?)
 }
 
 #[test]
@@ -101,40 +77,35 @@ fn the_first_fault_is_told(rt: HostRuntime) -> Result<(), Fail> {
     Ok(())
 }
 
-#[test]
-fn the_first_commit_is_in_whole(rt: HostRuntime) -> Result<(), Fail> {
-    let settings = opened(rt.alloc(), &[], &[])?;
-    let next = record(rt.alloc(), ONE_USER)?;
-    let plan = settings.prepare(rt.alloc(), next).ok().ok_or("plan")?;
-    assert_eq!(rt; plan.weight(), (4, 62));
-    Ok(())
+/// The room of the commit of this record, on settings of a first file that begins with these bytes.
+fn prepared(alloc: Global, first: &[&str], next: &str) -> Result<(u32, u64), Fail> {
+    let settings = opened(alloc, first, &[])?;
+    let plan = settings.prepare(alloc, record_of(alloc, next)?)?;
+    Ok(plan.weight())
 }
 
 #[test]
-fn a_further_commit_is_an_entry(rt: HostRuntime) -> Result<(), Fail> {
-    let first = ["a500000000000000018000001c", ONE_USER];
-    let settings = opened(rt.alloc(), &first, &[])?;
-    let next = record(rt.alloc(), TWO_USERS)?;
-    let plan = settings.prepare(rt.alloc(), next).ok().ok_or("plan")?;
-    assert_eq!(rt; plan.weight(), (4, 52));
-    Ok(())
-}
-
-#[test]
-fn a_file_without_a_journal_is_written_in_whole(rt: HostRuntime) -> Result<(), Fail> {
-    let first = ["a500000000000000010000001c", ONE_USER];
-    let settings = opened(rt.alloc(), &first, &[])?;
-    let next = record(rt.alloc(), TWO_USERS)?;
-    let plan = settings.prepare(rt.alloc(), next).ok().ok_or("plan")?;
-    assert_eq!(rt; plan.weight(), (4, 87));
+fn a_commit_is_an_entry_where_the_file_has_a_journal(rt: HostRuntime) -> Result<(), Fail> {
+    let journal = ["a500000000000000018000001c", ONE_USER];
+    let no_journal = ["a500000000000000010000001c", ONE_USER];
+    assert_eq!(rt; prepared(rt.alloc(), &[], ONE_USER)?, (4, 62), "first");
+    assert_eq!(rt;
+        prepared(rt.alloc(), &journal, TWO_USERS)?,
+        (4, 52),
+        "entry"
+    );
+    assert_eq!(rt;
+        prepared(rt.alloc(), &no_journal, TWO_USERS)?,
+        (4, 87),
+        "in whole"
+    );
     Ok(())
 }
 
 #[test]
 fn the_last_sequence_number_is_worn(rt: HostRuntime) -> Result<(), Fail> {
-    let first = ["a5ffffffffffffffff8000001c", ONE_USER];
-    let settings = opened(rt.alloc(), &first, &[])?;
-    let next = record(rt.alloc(), TWO_USERS)?;
+    let settings = opened(rt.alloc(), &["a5ffffffffffffffff8000001c", ONE_USER], &[])?;
+    let next = record_of(rt.alloc(), TWO_USERS)?;
     assert_eq!(rt;
         settings.prepare(rt.alloc(), next).err(),
         Some(PrepareFault::Worn)

@@ -1,6 +1,7 @@
+//! Each run is made with the same noise, and begins on nobody or on what the run before left.
 use crate::runs::{RUNS, Run};
-use crate::{Books, SessionState, State, Table, Vault, replies, restart};
 use ls_bytes::{Bytes, Memory, put_bytes, put_u8};
+use ls_vault::{Books, SessionState, State, Table, Vault, replies, restart};
 use std::alloc::Global;
 use std::test::*;
 

@@ -1,11 +1,11 @@
 //! Protectors whose bytes come from OpenSSL, through Python's `hashlib` and `cryptography`, and the
 //! same with one bit turned over. Drawn bytes are 3, 10, 17 and so on, modulo 256.
-use super::*;
 use hex::FromHex;
 use ls_board::{Counter, World};
 use ls_bytes::{Bytes, Name};
 use ls_credential::{Credential, Kind};
 use ls_secret::Secret;
+use ls_unsealing::{HeldParts, PartFiles, Protector, Purpose, seals, seals_token, shows_metrics};
 use ls_weaver::Slot;
 use std::alloc::Global;
 use std::test::Fail;

@@ -1,7 +1,7 @@
 //! Handles, whose tags are those of Python's hmac, and verifications over several moments.
-use super::*;
 use ls_board::GkTable;
 use ls_bytes::{Memory, hex_lower};
+use ls_gatekeeper::{Gatekeeper, Verify};
 use std::alloc::Global;
 use std::test::Fail;
 

@@ -1,8 +1,11 @@
 //! Values from outside: of OpenSSL through Python's `hashlib` and `cryptography`.
-use super::*;
 use hex::FromHex;
 use ls_bytes::hex_lower;
 use ls_credential::{Credential, Kind};
+use ls_sealing::{
+    Place, credential_plan, discardable_share, gatekeeper_password, layered, stretched,
+    stretched_default, token_plan, value_share, weaver_key,
+};
 use ls_secret::Secret;
 use std::alloc::Global;
 use std::test::Fail;

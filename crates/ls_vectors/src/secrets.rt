@@ -1,8 +1,8 @@
 //! Values from outside: of OpenSSL through Python's `hashlib` and `cryptography`.
-use super::*;
 use hex::FromHex;
 use ls_bytes::hex_lower;
 use ls_gcm::OpenFault;
+use ls_secret::{Secret, SecretFault};
 use std::test::Fail;
 
 const SP: &[u8] =

@@ -1,5 +1,0 @@
-//! Lines and replies by their texts.
-
-mod columns;
-mod lines;
-mod replies;
