@@ -50,11 +50,8 @@ fn put_users(to: &mut Bytes, users: &[u32]) -> Result<(), Memory>
 fn put_zeros(alloc: Global, to: &mut Bytes) -> Result<(), Memory>
     ensures put { OnOk result (to.new ≡ padded to.old) }
 {
-    let len = to.as_slice().len();
-    if len < FILE_LEN {
-        put_bytes(to, &vec![in alloc; 0; FILE_LEN - len]?)?;
-    }
-    Ok(())
+    let left = FILE_LEN.saturating_sub(to.as_slice().len());
+    put_bytes(to, &vec![in alloc; 0; left]?)
 }
 
 /// The users whose file this is, if it is one.
