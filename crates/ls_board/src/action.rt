@@ -36,7 +36,6 @@ pub enum BoardFault {
 }
 
 /// One thing that a board can be asked to do.
-#[derive(Drop)]
 pub enum Action {
     /// Gives the names of all files, ascending, each followed by 0x0A.
     List,
@@ -136,6 +135,59 @@ pub enum Action {
     Draw {
         len: u32,
     },
+}
+
+// One call lets an action go. Where the drop is derived, each place that may drop an action looks
+// at its kind.
+impl Drop for Action {
+    fn drop(self) {
+        match self {
+            Action::List => {}
+            Action::Read { name: _ } => {}
+            Action::Make { name: _, len: _ } => {}
+            Action::Put { name: _, bytes: _ } => {}
+            Action::Poke {
+                name: _,
+                at: _,
+                bytes: _,
+            } => {}
+            Action::Remove { name: _ } => {}
+            Action::Sync => {}
+            Action::WeaverWrite {
+                slot: _,
+                key: _,
+                value: _,
+            } => {}
+            Action::WeaverRead {
+                slot: _,
+                key: _,
+                moment: _,
+            } => {}
+            Action::GkSign {
+                sid: _,
+                salt: _,
+                password: _,
+            } => {}
+            Action::GkEnroll { sid: _ } => {}
+            Action::GkVerify {
+                handle: _,
+                password: _,
+                moment: _,
+            } => {}
+            Action::GkForget { sid: _ } => {}
+            Action::GkList => {}
+            Action::KeyPut { alias: _, key: _ } => {}
+            Action::KeyOpen { alias: _, bytes: _ } => {}
+            Action::KeyDrop { alias: _ } => {}
+            Action::KeyList => {}
+            Action::ResumeStore { key: _ } => {}
+            Action::ResumeTake => {}
+            Action::Hear { max: _ } => {}
+            Action::Say { bytes: _ } => {}
+            Action::Now => {}
+            Action::Draw { len: _ } => {}
+        }
+    }
 }
 
 impl Action {

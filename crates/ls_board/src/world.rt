@@ -20,7 +20,6 @@ pub type SlotTable = Weaver;
 pub type MomentList = Rows<u64>;
 
 /// All that a board may keep.
-#[derive(Drop)]
 pub struct World {
     /// The files as they read.
     pub files: FileTable,
@@ -46,6 +45,26 @@ pub struct World {
     pub noise: Bytes,
 }
 
+// One call lets a world go. Where the drop is derived, each place that may drop a world lets go of
+// its fields one by one.
+impl Drop for World {
+    fn drop(self) {
+        let World {
+            files: _,
+            touched: _,
+            slots: _,
+            gk_key: _,
+            gk: _,
+            keys: _,
+            cell: _,
+            input: _,
+            said: _,
+            moments: _,
+            noise: _,
+        } = self;
+    }
+}
+
 impl World {
     /// A world with so many blank slots, at most 256, in which nothing is stored. The Gatekeeper's
     /// key is zeros.
@@ -61,10 +80,10 @@ impl World {
             gk: GkTable::new(alloc),
             keys: KeyTable::new(alloc),
             cell: None,
-            input: Bytes::of(alloc, &[])?,
-            said: Bytes::of(alloc, &[])?,
+            input: Bytes::from(Vec::new(alloc)),
+            said: Bytes::from(Vec::new(alloc)),
             moments: MomentList::new(alloc),
-            noise: Bytes::of(alloc, &[])?,
+            noise: Bytes::from(Vec::new(alloc)),
         })
     }
 
@@ -89,18 +108,26 @@ impl World {
     pub fn copy(&self, alloc: Global) -> Result<World, Memory>
         ensures same { IfOk result (λ w. w ≡ self.now) }
     {
-        Ok(World {
-            files: self.files.copy()?,
-            touched: self.touched.copy()?,
-            slots: self.slots.copy(alloc)?,
-            gk_key: self.gk_key,
-            gk: self.gk.copy(alloc)?,
-            keys: self.keys.copy(alloc)?,
-            cell: self.cell,
-            input: Bytes::of(alloc, self.input.as_slice())?,
-            said: Bytes::of(alloc, self.said.as_slice())?,
-            moments: copied_list(alloc, &self.moments)?,
-            noise: Bytes::of(alloc, self.noise.as_slice())?,
-        })
+        let mut world = World::blank(alloc, 0)?;
+        self.copy_into(alloc, &mut world)?;
+        Ok(world)
+    }
+
+    // Makes the world the same as this one, one field at a time.
+    fn copy_into(&self, alloc: Global, world: &mut World) -> Result<(), Memory>
+        ensures same { OnOk result (world.new ≡ self.now) }
+    {
+        world.files = self.files.copy()?;
+        world.touched = self.touched.copy()?;
+        world.slots = self.slots.copy(alloc)?;
+        world.gk_key = self.gk_key;
+        world.gk = self.gk.copy(alloc)?;
+        world.keys = self.keys.copy(alloc)?;
+        world.cell = self.cell;
+        world.input = Bytes::of(alloc, self.input.as_slice())?;
+        world.said = Bytes::of(alloc, self.said.as_slice())?;
+        world.moments = copied_list(alloc, &self.moments)?;
+        world.noise = Bytes::of(alloc, self.noise.as_slice())?;
+        Ok(())
     }
 }

@@ -34,7 +34,19 @@ pub(crate) fn current_record(alloc: Global, world: &World) -> Result<Option<Reco
         ((s : Settled) → ¬ (current (file_at world.now) ≡ Ok s))) }
 {
     let mut board = board_with(alloc, &world.files)?;
-    match Settings::look(alloc, &mut board) {
+    record_on(alloc, &mut board)
+}
+
+/// The record of the current settings on a board that never fails, where they have no fault.
+fn record_on(alloc: Global, board: &mut MemBoard) -> Result<Option<Record>, Memory>
+    requires told { IsTrue (sight_of board.old).told }
+    requires never_fails { IsTrue (sight_of board.old).never_fails }
+    ensures found { IfOk result (λ found. IfSome found (λ r.
+        IsOkAnd (current (file_at (sight_of board.old).world)) (λ s. s.rec ≡ r))) }
+    ensures none { IfOk result (λ found. IfNone found
+        ((s : Settled) → ¬ (current (file_at (sight_of board.old).world) ≡ Ok s))) }
+{
+    match Settings::look(alloc, board) {
         Ok(record) => Ok(Some(record)),
         Err(OpenRefusal::Foreign { .. }) => Ok(None),
         // No call of this board fails.

@@ -1,6 +1,6 @@
 -- What is made again, call by call, is the world of the replay.
 use Rattle.std.proofs.Common.{◌≡◌, ◌<◌, ◌+◌, ℕ, List, [], ◌∷◌, ◌++◌, length, take, Option, None, refl, sym, ◌∙◌, ap}
-use Rattle.std.specs.Prelude.{slice_index_or, Result, Ok, Err, IfOk}
+use Rattle.std.specs.Prelude.{slice_index_or}
 use Rattle.std.proofs.lemmas.List.{take_more}
 use Rattle.ls_board.specs.declared.world.World.{World}
 use Rattle.ls_memboard.specs.declared.call.Entry.{Entry}
@@ -54,11 +54,3 @@ module _ (pool : List ℕ) (start : World) (log : List Entry) (k : ℕ) (d : Ent
       kept ∙ (λ i. synced_after (met i) (call_of (pools i) e.kept) (world i))
       ∙ ap (synced_after (synced_of pool start None (take k log)) (call_of pool e.kept)) (sym is_next)
       ∙ sym (synced_push pool start None (take k log) e) ∙ ap (synced_of pool start None) (sym (take_more log k d within))
-
--- files and devices together are the world
-rejoined : (start w v b r : World) → w ≡ with_files_of b v → v ≡ with_files_of start r → b ≡ bare r → w ≡ r
-rejoined start w v b r is files devices = is ∙ (λ i. with_files_of (devices i) (files i))
-
-pub rebuilt : {E : Type 0} (result : Result World E) (start v b r : World) → IfOk result (λ w. w ≡ with_files_of b v) → v ≡ with_files_of start r → b ≡ bare r → IfOk result (λ w. w ≡ r)
-rebuilt (Ok w) start v b r is files devices = rejoined start w v b r is files devices
-rebuilt (Err e) start v b r is files devices = tt

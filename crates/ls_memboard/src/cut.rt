@@ -104,15 +104,13 @@ impl MemBoard {
         ensures allowed { IfOk result (λ image.
             ImageAt (sight_of self.now).past (sight_of self.now).world moment image) }
     {
-        let world = self.world_after(moment as usize)?;
+        let mut world = self.world_after(moment as usize)?;
         let _ = world.files.len();
         let _ = world.touched.len();
         let synced = self.synced(moment as usize)?;
         let files = picked_files(self.alloc, &world, &synced, &self.start, Picker::of(pick))?;
-        Ok(World {
-            files,
-            touched: TouchTable::new(self.alloc),
-            ..world
-        })
+        world.files = files;
+        world.touched = TouchTable::new(self.alloc);
+        Ok(world)
     }
 }

@@ -15,7 +15,6 @@ use ls_weaver::Weaver;
 use std::alloc::Global;
 
 /// The devices, what is left to be heard, and what was said.
-#[derive(Drop)]
 pub struct Devices {
     pub(crate) slots: Weaver,
     pub(crate) gk: Gatekeeper,
@@ -25,6 +24,22 @@ pub struct Devices {
     pub(crate) said: Vec<u8>,
     pub(crate) moments: Tape<u64>,
     pub(crate) noise: Tape<u8>,
+}
+
+// One call lets devices go, as one lets go of a world.
+impl Drop for Devices {
+    fn drop(self) {
+        let Devices {
+            slots: _,
+            gk: _,
+            keys: _,
+            cell: _,
+            input: _,
+            said: _,
+            moments: _,
+            noise: _,
+        } = self;
+    }
 }
 
 /// Writes a slot, if there is one of this number.
@@ -47,22 +62,47 @@ fn read_slot(slots: &mut Weaver, slot: u32, key: &[u8; 16], moment: u64)
 }
 
 impl Devices {
+    ghost use Rattle.ls_board.specs.Worlds.{blank_world};
     ghost use Rattle.ls_memboard.specs.Beside.{bare, beside};
 
     /// The devices of a world.
     pub(crate) fn of(alloc: Global, world: &World) -> Result<Devices, Memory>
         ensures same { IfOk result (λ d. beside d ≡ bare world.now) }
     {
+        let mut devices = Devices::empty(alloc)?;
+        devices.take(alloc, world)?;
+        Ok(devices)
+    }
+
+    /// Devices that hold nothing.
+    fn empty(alloc: Global) -> Result<Devices, Memory>
+        ensures empty { IfOk result (λ d. beside d ≡ bare (blank_world 0)) }
+    {
         Ok(Devices {
-            slots: world.slots.copy(alloc)?,
-            gk: Gatekeeper::of(world.gk_key, world.gk.copy(alloc)?),
-            keys: KeyStore::of(world.keys.copy(alloc)?),
-            cell: ResumeCell::of(world.cell),
-            input: Tape::of(alloc, world.input.as_slice())?,
-            said: world.said.as_slice().to_vec(alloc)?,
-            moments: Tape::of(alloc, world.moments.as_slice())?,
-            noise: Tape::of(alloc, world.noise.as_slice())?,
+            slots: Weaver::new(alloc, 0)?,
+            gk: Gatekeeper::new(alloc, [0; 32]),
+            keys: KeyStore::new(alloc),
+            cell: ResumeCell::new(),
+            input: Tape::new(alloc),
+            said: Vec::new(alloc),
+            moments: Tape::new(alloc),
+            noise: Tape::new(alloc),
         })
+    }
+
+    /// Takes over what the world has of devices, one at a time.
+    fn take(&mut self, alloc: Global, world: &World) -> Result<(), Memory>
+        ensures same { OnOk result (beside self.new ≡ bare world.now) }
+    {
+        self.slots = world.slots.copy(alloc)?;
+        self.gk = Gatekeeper::of(world.gk_key, world.gk.copy(alloc)?);
+        self.keys = KeyStore::of(world.keys.copy(alloc)?);
+        self.cell = ResumeCell::of(world.cell);
+        self.input = Tape::of(alloc, world.input.as_slice())?;
+        self.said = world.said.as_slice().to_vec(alloc)?;
+        self.moments = Tape::of(alloc, world.moments.as_slice())?;
+        self.noise = Tape::of(alloc, world.noise.as_slice())?;
+        Ok(())
     }
 
     /// Makes room for so many more records, keys and said bytes.

@@ -11,7 +11,6 @@ use ls_bytes::Memory;
 use std::alloc::Global;
 
 /// A board in memory. It tells its whole world.
-#[derive(Drop)]
 pub struct MemBoard {
     pub(crate) alloc: Global,
     pub(crate) start: World,
@@ -34,6 +33,23 @@ pub struct MemBoard {
     ghost record_room: { actions ≤ devices.gk.spare },
     ghost key_room: { actions ≤ devices.keys.spare },
     ghost in_step: { IsInStep start failures pool.items log.items changes.items devices },
+}
+
+// One call lets a board go, as one lets go of a world.
+impl Drop for MemBoard {
+    fn drop(self) {
+        let MemBoard {
+            alloc: _,
+            start: _,
+            failures: _,
+            log: _,
+            changes: _,
+            pool: _,
+            devices: _,
+            actions: _,
+            bytes: _,
+        } = self;
+    }
 }
 
 impl MemBoard {

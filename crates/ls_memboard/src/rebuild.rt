@@ -1,8 +1,9 @@
 //! The world that calls have made, as a value.
-ghost use Rattle.std.specs.Prelude.{◌≡◌, ◌≤◌, length, take, IfOk};
-ghost use Rattle.ls_memboard.specs.Beside.{beside, with_files_of};
-ghost use Rattle.ls_memboard.specs.Replay.{replay};
+ghost use Rattle.std.specs.Prelude.{◌≡◌, ◌≤◌, length, take, IfOk, OnOk};
+ghost use Rattle.ls_memboard.specs.Beside.{bare, beside, with_files_of};
+ghost use Rattle.ls_memboard.specs.Replay.{AllIn, replay};
 
+use crate::call::Entry;
 use crate::devices::Devices;
 use crate::memory::MemBoard;
 use crate::redo::redo;
@@ -21,23 +22,63 @@ fn copied<T: Copy + Drop>(alloc: Global, items: &[T]) -> Result<Rows<T>, Memory>
     Ok(list)
 }
 
-/// The world with these devices.
-fn with_devices(alloc: Global, world: World, devices: &Devices) -> Result<World, Memory>
-    ensures joined { IfOk result (λ w. w ≡ with_files_of (beside devices.now) world) }
+/// Makes the world's devices these, one at a time.
+fn take_devices(alloc: Global, world: &mut World, devices: &Devices) -> Result<(), Memory>
+    ensures joined { OnOk result (world.new ≡ with_files_of (beside devices.now) world.old) }
 {
-    Ok(World {
-        files: world.files,
-        touched: world.touched,
-        slots: devices.slots.copy(alloc)?,
-        gk_key: devices.gk.key(),
-        gk: GkTable::of(devices.gk.records().copy(alloc)?),
-        keys: KeyTable::of(devices.keys.keys().copy(alloc)?),
-        cell: devices.cell.get(),
-        input: Bytes::of(alloc, devices.input.rest())?,
-        said: Bytes::of(alloc, &devices.said)?,
-        moments: copied(alloc, devices.moments.rest())?,
-        noise: Bytes::of(alloc, devices.noise.rest())?,
-    })
+    world.slots = devices.slots.copy(alloc)?;
+    world.gk_key = devices.gk.key();
+    world.gk = GkTable::of(devices.gk.records().copy(alloc)?);
+    world.keys = KeyTable::of(devices.keys.keys().copy(alloc)?);
+    world.cell = devices.cell.get();
+    world.input = Bytes::of(alloc, devices.input.rest())?;
+    world.said = Bytes::of(alloc, &devices.said)?;
+    world.moments = copied(alloc, devices.moments.rest())?;
+    world.noise = Bytes::of(alloc, devices.noise.rest())?;
+    Ok(())
+}
+
+/// Does these calls again, to the files of the world and to its devices.
+fn redo_all(
+    alloc: Global,
+    world: &mut World,
+    devices: &mut Devices,
+    pool: &[u8],
+    log: &[Entry],
+) -> Result<(), Memory>
+    requires within { AllIn pool.now log.now }
+    requires begins { beside devices.old ≡ bare world.old }
+    ensures files { OnOk result (world.new
+        ≡ with_files_of world.old (replay pool.now world.old log.now)) }
+    ensures devices { OnOk result (beside devices.new
+        ≡ bare (replay pool.now world.old log.now)) }
+{
+    for e in log {
+        redo(alloc, world, pool, e)?;
+        devices.make_room(1, e.kept.bytes)?;
+        devices.redo(pool, e);
+    }
+    Ok(())
+}
+
+/// The world that these calls make of the one they start at.
+fn rebuild(alloc: Global, start: &World, pool: &[u8], log: &[Entry]) -> Result<World, Memory>
+    requires within { AllIn pool.now log.now }
+    ensures same { IfOk result (λ w. w ≡ replay pool.now start.now log.now) }
+{
+    let mut world = start.copy(alloc)?;
+    rebuild_in(alloc, &mut world, pool, log)?;
+    Ok(world)
+}
+
+/// Makes the world what these calls make of it.
+fn rebuild_in(alloc: Global, world: &mut World, pool: &[u8], log: &[Entry]) -> Result<(), Memory>
+    requires within { AllIn pool.now log.now }
+    ensures same { OnOk result (world.new ≡ replay pool.now world.old log.now) }
+{
+    let mut devices = Devices::of(alloc, world)?;
+    redo_all(alloc, world, &mut devices, pool, log)?;
+    take_devices(alloc, world, &devices)
 }
 
 impl MemBoard {
@@ -49,14 +90,7 @@ impl MemBoard {
         ensures same { IfOk result (λ w. w
             ≡ replay self.now.pool.items self.now.start (take calls self.now.log.items)) }
     {
-        let mut world = self.start.copy(self.alloc)?;
-        let mut devices = Devices::of(self.alloc, &self.start)?;
-        for e in &self.log[..calls] {
-            redo(self.alloc, &mut world, &self.pool, e)?;
-            devices.make_room(1, e.kept.bytes)?;
-            devices.redo(&self.pool, e);
-        }
-        with_devices(self.alloc, world, &devices)
+        rebuild(self.alloc, &self.start, &self.pool, &self.log[..calls])
     }
 
     /// The world as it is now.

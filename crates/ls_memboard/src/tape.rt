@@ -1,5 +1,5 @@
 //! What is taken from its front, item by item.
-ghost use Rattle.std.specs.Prelude.{◌≡◌, ◌≤◌, drop, IfOk};
+ghost use Rattle.std.specs.Prelude.{◌≡◌, ◌≤◌, [], drop, IfOk};
 ghost use Rattle.ls_tape.specs.Tape.{next_moment, later_moments};
 
 use ls_bytes::Memory;
@@ -25,6 +25,16 @@ impl<T> Model for Tape<T> {
 }
 
 impl<T: Copy> Tape<T> {
+    /// No items.
+    pub(crate) fn new(alloc: Global) -> Tape<T>
+        ensures empty { result ≡ [] }
+    {
+        Tape {
+            items: Vec::new(alloc),
+            at: 0,
+        }
+    }
+
     /// These items, none of them taken.
     pub(crate) fn of(alloc: Global, items: &[T]) -> Result<Tape<T>, Memory>
         ensures same { IfOk result (λ t. t ≡ items.now) }

@@ -237,15 +237,14 @@ pub fn step(
 pub fn restart(alloc: Global, state: State, boot: u32, books: Books) -> State
     ensures same { result ≡ restart state boot books }
 {
-    State {
-        vault: state.vault,
-        books,
-        session: SessionState {
-            boot,
-            opened: Table::new(alloc),
-            pending: Table::new(alloc),
-            prepared: false,
-            captured: Table::new(alloc),
-        },
-    }
+    let mut state = state;
+    state.books = books;
+    state.session = SessionState {
+        boot,
+        opened: Table::new(alloc),
+        pending: Table::new(alloc),
+        prepared: false,
+        captured: Table::new(alloc),
+    };
+    state
 }
