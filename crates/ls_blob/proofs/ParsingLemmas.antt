@@ -1,10 +1,12 @@
--- Bytes without a fault are a blob.
-use Rattle.std.proofs.Common.{◌≡◌, ◌+◌, ◌||◌, ◌==◌, ◌⊎◌, ℕ, Bool, true, false, cond, List, [], ◌∷◌, length, Option, Some, None, inl, inr, refl, ap, arith}
+-- Bytes without a fault are a blob, and a blob's bytes have no fault.
+use Rattle.std.proofs.Common.{◌≡◌, ◌+◌, ◌||◌, ◌==◌, ◌⊎◌, ℕ, Bool, true, false, cond, List, [], ◌∷◌, length, Option, Some, None, inl, inr, refl, ap, ◌∙◌, arith}
 use Rattle.std.specs.Prelude.{nat_lt}
 use Rattle.std.proofs.lemmas.Bool.Decides.{nat_tests}
 use Rattle.ls_blob.specs.declared.fault.BlobFault.{BlobFault}
 use Rattle.ls_blob.specs.declared.fault.BlobFault.TheVariants.{Short, Version, Kind, Extra}
+use Rattle.ls_blob.specs.declared.kind.BlobKind.{BlobKind}
 use Rattle.ls_blob.specs.declared.kind.BlobKind.TheVariants.{Credential, StrongToken}
+use Rattle.ls_blob.specs.Kinds.{kind_byte, content_size}
 use Rattle.ls_blob.specs.Blobs.{Blob, Spells}
 use Rattle.ls_blob.specs.Parsing.{size_fault, kind_fault, first_fault}
 
@@ -58,3 +60,18 @@ spelled_without_fault (v ∷ k ∷ content) h =
       ]
       | inr unknown ↦ let e = unknown.1 in cc
     ]
+
+of_version : (v b : ℕ) (content : List ℕ) → (v ≡ 2) ⊎ (v ≡ 3)
+    → first_fault (v ∷ b ∷ content) ≡ kind_fault b (2 + length content)
+of_version v b content (inl e) = ap (λ x. first_fault (x ∷ b ∷ content)) e
+of_version v b content (inr e) = ap (λ x. first_fault (x ∷ b ∷ content)) e
+
+of_size : (k : BlobKind) (n : ℕ) → n ≡ content_size k → kind_fault (kind_byte k) (2 + n) ≡ None
+of_size Credential n e = ap (λ n. kind_fault 0 (2 + n)) e
+of_size StrongToken n e = ap (λ n. kind_fault 1 (2 + n)) e
+
+pub spelled_has_no_fault : (blob : Blob) (bytes : List ℕ) → Spells blob bytes → first_fault bytes ≡ None
+spelled_has_no_fault blob bytes spells =
+    ap first_fault spells.spelling
+    ∙ of_version blob.version (kind_byte blob.kind) blob.content spells.version
+    ∙ of_size blob.kind (length blob.content) spells.size

@@ -1,7 +1,7 @@
 -- The first fault of bytes that are to be a blob.
 use Rattle.std.specs.Prelude.{◌+◌, ◌||◌, ◌==◌, ℕ, nat_lt, List, [], ◌∷◌, length, Option, Some, None, if◌then◌else◌}
 use Rattle.ls_blob.specs.declared.fault.BlobFault.{BlobFault}
-use Rattle.ls_blob.specs.declared.fault.BlobFault.TheVariants.{Short, Version, Kind, Extra}
+use Rattle.ls_blob.specs.declared.fault.BlobFault.TheVariants.{Short, Version, Kind, Extra, Memory}
 
 -- bytes of n in all, where size are wanted
 abbrev pub size_fault : ℕ → ℕ → Option BlobFault
@@ -24,3 +24,11 @@ first_fault (version ∷ []) = Some (Short 1)
 first_fault (version ∷ kind ∷ content) =
     if (version == 2) || (version == 3) then kind_fault kind (2 + length content)
     else Some (Version version)
+
+-- the place of a fault, from 0
+abbrev pub blob_place : BlobFault → ℕ
+blob_place (Short at) = at
+blob_place (Version version) = 0
+blob_place (Kind kind) = 1
+blob_place (Extra at) = at
+blob_place Memory = 0

@@ -1,5 +1,6 @@
 //! Why bytes are no blob.
 ghost use Rattle.std.specs.Prelude.{◌≡◌};
+ghost use Rattle.ls_blob.specs.Parsing.{blob_place};
 ghost use Rattle.ls_blob.specs.declared.fault.BlobFault.TheVariants as fault;
 
 use ls_bytes::Memory;
@@ -17,6 +18,19 @@ pub enum BlobFault {
     Extra { at: u32 },
     /// There was no memory for the content.
     Memory,
+}
+
+impl BlobFault {
+    // The place of the fault.
+    pub(crate) fn place(self) -> u32
+        ensures { result ≡ blob_place self }
+    {
+        match self {
+            BlobFault::Short { at } | BlobFault::Extra { at } => at,
+            BlobFault::Version(_) | BlobFault::Memory => 0,
+            BlobFault::Kind(_) => 1,
+        }
+    }
 }
 
 impl From<Memory> for BlobFault {

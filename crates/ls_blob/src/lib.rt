@@ -9,5 +9,8 @@ mod sp_blob;
 
 pub use fault::BlobFault;
 pub use kind::BlobKind;
-pub use personal::{open_under, seal_under, sealed_texts_open};
+pub use parsing::a_spelled_blob_has_no_fault;
+pub use personal::{
+    open_under, opened_under, seal_under, sealed_texts_are_bytes, sealed_texts_open,
+};
 pub use sp_blob::SpBlob;

@@ -1,10 +1,11 @@
 //! Sealing and opening under the personalised hash of a key.
 ghost use Rattle.std.specs.Prelude.{◌≡◌, ◌+◌, ◌^◌, ◌≤◌, ◌<◌, ◌↔◌, ◌⊎◌, List, ℕ, IfOk, length, take, Some, None};
+ghost use Rattle.ls_bytes.specs.ByteLists.{AllAreBytes};
 ghost use Rattle.ls_gcm.specs.Gcm.{HasWrongTag};
 ghost use Rattle.ls_blob.specs.Personal.{personal_key, sealed_under, opened_under};
 
 use ls_bytes::{Bytes, Memory};
-use ls_gcm::{OpenFault, open, seal};
+use ls_gcm::{OpenFault, open, opened, seal};
 use ls_hash::phash;
 use std::alloc::Global;
 
@@ -69,6 +70,20 @@ pub fn open_under(
     open(alloc, &personal_key(key, personal), sealed)
 }
 
+/// What was sealed under a key and a personalisation of at most 128 bytes, and None where it doesn't
+/// open.
+pub fn opened_under(
+    alloc: Global,
+    key: &[u8],
+    personal: &[u8],
+    sealed: &[u8],
+) -> Result<Option<Bytes>, Memory>
+    requires { length personal.now ≤ 128 }
+    ensures same { IfOk result (λ text. text ≡ opened_under key.now personal.now sealed.now) }
+{
+    opened(alloc, &personal_key(key, personal), sealed)
+}
+
 /// The law that what is sealed under a key and a personalisation opens under them, and has 28 bytes
 /// more than the text. The call does nothing.
 pub fn sealed_texts_open()
@@ -76,4 +91,11 @@ pub fn sealed_texts_open()
         → opened_under key personal (sealed_under key personal iv plain) ≡ Some plain }
     ensures size { (key personal iv plain : List ℕ) → length iv ≡ 12
         → length (sealed_under key personal iv plain) ≡ length plain + 28 }
+{}
+
+/// The law that what is sealed under a key and a personalisation are bytes, where the iv and the
+/// text are. The call does nothing.
+pub fn sealed_texts_are_bytes()
+    ensures bytes { (key personal iv plain : List ℕ) → AllAreBytes iv → AllAreBytes plain
+        → AllAreBytes (sealed_under key personal iv plain) }
 {}

@@ -1,3 +1,4 @@
+pub mod ByteListLemmas
 pub mod FieldLemmas
 pub mod JoinedLemmas
 mod NameLemmas

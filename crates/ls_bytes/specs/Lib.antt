@@ -1,3 +1,4 @@
+pub mod ByteLists
 pub mod Fields
 pub mod Joined
 pub mod Names

@@ -13,6 +13,6 @@ pub use bytes::Bytes;
 pub use hex_text::{hex_lower, hex_upper};
 pub use memory::Memory;
 pub use name::{Name, NameFault};
-pub use put::{put_be32, put_be64, put_bytes, put_u8};
+pub use put::{joined, put_be32, put_be64, put_bytes, put_u8};
 pub use reader::{Reader, Short};
 pub use rows::{IdList, NameList, Rows, SlotList, UserList};

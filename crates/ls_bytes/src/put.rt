@@ -1,10 +1,11 @@
 //! Fields of formats, put at the end of a list of bytes. Numbers are big-endian.
-ghost use Rattle.std.specs.Prelude.{◌≡◌, ◌++◌, ◌∷◌, [], OnOk, OnErr};
+ghost use Rattle.std.specs.Prelude.{◌≡◌, ◌++◌, ◌∷◌, [], IfOk, OnOk, OnErr};
 ghost use Rattle.ls_bytes.specs.Fields.{be32, be64};
 
 use crate::bytes::Bytes;
 use crate::memory::Memory;
 use byteorder::{BigEndian, ByteOrder};
+use std::alloc::Global;
 
 /// Puts one byte at the end.
 pub fn put_u8(to: &mut Bytes, v: u8) -> Result<(), Memory>
@@ -41,4 +42,13 @@ pub fn put_bytes(to: &mut Bytes, v: &[u8]) -> Result<(), Memory>
 {
     to.items.extend_from_slice(v)?;
     Ok(())
+}
+
+/// The bytes of the front, and then those of the back.
+pub fn joined(alloc: Global, front: &[u8], back: &[u8]) -> Result<Bytes, Memory>
+    ensures same { IfOk result (λ bytes. bytes ≡ front.now ++ back.now) }
+{
+    let mut bytes = Bytes::of(alloc, front)?;
+    put_bytes(&mut bytes, back)?;
+    Ok(bytes)
 }

@@ -46,6 +46,11 @@ impl<T> Rows<T> {
         }
     }
 
+    /// The allocator that the list was made with, for a list that has none of its own yet.
+    pub fn allocator(&self) -> Global {
+        *self.items.allocator()
+    }
+
     /// How many rows there are.
     pub fn len(&self) -> u32
         ensures count { result ≡ length self.now }

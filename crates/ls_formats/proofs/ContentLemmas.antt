@@ -1,14 +1,13 @@
 -- Each format of contents is that of its values, each spelled in one way.
-use Rattle.std.proofs.Common.{◌≡◌, ◌≢◌, ◌≤◌, ◌<◌, ◌^◌, inl, inr, ℕ, zero, suc, ◌++◌, ◌/◌, ◌||◌, true, cond, List, [], ◌∷◌, length, take, drop, get_or, Option, None, Some, refl, sym, ap, subst, ◌∙◌, arith}
+use Rattle.std.proofs.Common.{◌≡◌, ◌≢◌, ◌≤◌, inl, inr, ℕ, zero, suc, ◌++◌, ◌||◌, true, cond, List, [], ◌∷◌, length, take, drop, get_or, Option, None, Some, refl, sym, ap, subst, ◌∙◌, arith}
 use Rattle.std.specs.Prelude.{IfSome, unwrap_or}
-use Rattle.std.specs.Int.{byte_at, bytes_high_first}
 use Rattle.std.proofs.Math.Dec.{leb, eqb}
-use Rattle.std.proofs.Math.Nat.{mod-lt}
 use Rattle.std.proofs.lemmas.Bool.{and_parts, and_from, or_cases, leb-true, le-leb, eqb-true}
 use Rattle.std.proofs.lemmas.List.{append-nil, take-append-drop, take_at, take_all, drop_at, drop-drop, get_or-drop, get_or_at, length-append}
 use Rattle.byteorder.specs.Endian.{big_bytes}
 use Rattle.byteorder.specs.Numbers.{big_from-lt}
 use Rattle.ls_bytes.specs.Fields.{be32}
+use Rattle.ls_bytes.proofs.ByteListLemmas.{bytes_big}
 use Rattle.ls_bytes.proofs.FieldLemmas.{be32-big_number, big_number-be32}
 use Rattle.byteorder.specs.Endian.{big_number}
 use Rattle.ls_credential.specs.declared.kind.Kind.{Kind}
@@ -56,18 +55,10 @@ spelled_value {V} f Keeps spelling value_of is bytes h v e =
 
 -- ---- bytes of numbers
 
-byte_at_small : (k x : ℕ) → byte_at k x < 256
-byte_at_small zero x = omega arith
-byte_at_small (suc k) x = mod-lt (x / 256 ^ suc k) (omega arith)
-
 -- the bytes of a number
 pub big_are_bytes : (n x : ℕ) → AreBytes n (big_bytes n x)
 big_are_bytes zero x = record { long = refl; each = λ i. omega arith }
-big_are_bytes (suc n) x = let rest = big_are_bytes n x in record { long = omega (arith, rest.long); each = each rest.each }
-  where
-    each : ((i : ℕ) → get_or (bytes_high_first n x) i 0 < 256) → (i : ℕ) → get_or (byte_at n x ∷ bytes_high_first n x) i 0 < 256
-    each rest zero = byte_at_small n x
-    each rest (suc i) = rest i
+big_are_bytes (suc n) x = record { long = omega (arith, (big_are_bytes n x).long); each = bytes_big (suc n) x }
 
 -- a byte that can be one alone
 just_is : (a b : ℕ) → passes (Between a a) b ≡ true → b ≡ a

@@ -1,5 +1,6 @@
 //! The names of settings files and of protector files.
 ghost use Rattle.std.specs.Prelude.{◌≡◌, ◌≢◌, ◌≤◌, MatchBool, IfOk, length};
+ghost use Rattle.ls_bytes.specs.Names.{IsName};
 ghost use Rattle.ls_formats.specs.Faults.{Parses, HasFault, Spells};
 ghost use Rattle.ls_formats.specs.Format.{first_fault};
 ghost use Rattle.ls_formats.specs.PartNames.{PartOf, IsPartOf, part_text, part_name_text};
@@ -56,6 +57,7 @@ impl FileName {
     /// The one spelling of the name.
     pub fn print(&self, alloc: Global) -> Result<Bytes, Memory>
         ensures spelled { IfOk result (λ text. text ≡ name_text self.now) }
+        ensures is_name { IfOk result IsName }
         ensures kept { IsFileName self.now }
     {
         match self {

@@ -44,6 +44,7 @@ impl PwdData {
     /// What the file says.
     pub fn parse(bytes: &[u8]) -> Result<PwdData, FormatFault>
         ensures exact { Parses IsPwd pwd_bytes bytes.now result }
+        ensures of { IfOk result (λ pwd. pwd ≡ pwd_of bytes.now) }
         ensures fault { HasFault result (first_fault (format_of FilePart.Pwd) bytes.now) }
     {
         match file_fault(FilePart::Pwd, bytes) {

@@ -11,11 +11,13 @@ pub enum Side {
 }
 
 impl Side {
+    ghost use Rattle.ls_bytes.specs.Names.{IsName};
     ghost use Rattle.ls_formats.specs.PartNames.{settings_text};
 
     /// The name of the file.
     pub fn file_name(self) -> &'static [u8]
         ensures text { result.now ≡ settings_text self }
+        ensures is_name { IsName result.now }
     {
         match self {
             Side::First => b"settings.0",

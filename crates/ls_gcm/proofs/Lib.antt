@@ -5,5 +5,6 @@ mod ExpansionLemmas
 mod HashLemmas
 mod ProductLemmas
 mod RoundLemmas
+pub mod SealedBytesLemmas
 pub mod SealingLemmas
 pub mod StandardFacts

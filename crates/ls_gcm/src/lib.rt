@@ -14,6 +14,6 @@ mod xor;
 
 pub use aes::Aes256;
 pub use fault::OpenFault;
-pub use opening::open;
-pub use sealing::seal;
+pub use opening::{open, opened};
+pub use sealing::{seal, what_is_sealed_are_bytes};
 pub use table::{HTable, times_h};

@@ -79,3 +79,14 @@ pub fn open(alloc: Global, key: &[u8; 32], sealed: &[u8]) -> Result<Bytes, OpenF
     }
     Ok(decrypted(alloc, &cipher, sealed)?)
 }
+
+/// The plain text of a sealed text, and None where it doesn't open.
+pub fn opened(alloc: Global, key: &[u8; 32], sealed: &[u8]) -> Result<Option<Bytes>, Memory>
+    ensures same { IfOk result (λ text. text ≡ gcm_open key.now sealed.now) }
+{
+    match open(alloc, key, sealed) {
+        Ok(text) => Ok(Some(text)),
+        Err(OpenFault::Memory) => Err(Memory),
+        Err(_) => Ok(None),
+    }
+}

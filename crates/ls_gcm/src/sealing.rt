@@ -1,5 +1,6 @@
 //! Sealing: the iv, the ciphertext and the tag (SP 800-38D, 7.1).
-ghost use Rattle.std.specs.Prelude.{◌≡◌, ◌+◌, ◌^◌, ◌≤◌, ◌++◌, IfOk, length};
+ghost use Rattle.std.specs.Prelude.{◌≡◌, ◌+◌, ◌^◌, ◌≤◌, ◌++◌, List, ℕ, IfOk, length};
+ghost use Rattle.ls_bytes.specs.ByteLists.{AllAreBytes};
 ghost use Rattle.ls_gcm.specs.Gcm.{gcm_seal};
 
 use crate::aes::Aes256;
@@ -26,3 +27,10 @@ pub fn seal(alloc: Global, key: &[u8; 32], iv: &[u8; 12], plain: &[u8]) -> Resul
     sealed.extend_from_slice(&tag)?;
     Ok(Bytes::from(sealed))
 }
+
+/// The law that what is sealed are bytes, where the key, the iv and the text are. The call does
+/// nothing.
+pub fn what_is_sealed_are_bytes()
+    ensures bytes { (key iv plain : List ℕ) → AllAreBytes key → AllAreBytes iv → AllAreBytes plain
+        → AllAreBytes (gcm_seal key iv plain) }
+{}

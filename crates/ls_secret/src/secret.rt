@@ -68,7 +68,7 @@ fn sp_text_of(alloc: Global, hash: &[u8; 64]) -> Result<Bytes, Memory>
 
 impl Secret {
     ghost use Rattle.ls_secret.specs.Derivation.{subkey_of, derived_of};
-    ghost use Rattle.ls_secret.specs.Secrets.{IsSecret, new_secret, secret_fault};
+    ghost use Rattle.ls_secret.specs.Secrets.{IsSecret, is_version, new_secret, secret_fault, synthetic_password};
     ghost use Rattle.ls_secret.specs.declared.fault.SecretFault.{SecretFault};
 
     /// The new secret of two halves.
@@ -76,8 +76,18 @@ impl Secret {
         ensures made { IfOk result (λ secret. secret ≡ new_secret p0.now p1.now) }
         ensures is_secret { IfOk result IsSecret }
     {
+        Secret::of_halves(alloc, NEW_VERSION, p0, p1)
+    }
+
+    /// The secret of version 2 or 3 that is made of two halves, of whatever sizes.
+    pub fn of_halves(alloc: Global, version: u8, p0: &[u8], p1: &[u8]) -> Result<Secret, Memory>
+        requires version { IsTrue (is_version version) }
+        ensures made { IfOk result (λ secret.
+            secret ≡ record { version = version; sp = synthetic_password p0.now p1.now }) }
+        ensures is_secret { IfOk result IsSecret }
+    {
         Ok(Secret {
-            version: NEW_VERSION,
+            version,
             sp: sp_text_of(alloc, &phash2(b"sp-split", p0, p1))?,
         })
     }
