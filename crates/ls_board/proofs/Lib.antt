@@ -1,8 +1,13 @@
+pub mod CallLemmas
+pub mod CountLemmas
 pub mod CrashLemmas
 pub mod FileLemmas
 pub mod FrameLemmas
 pub mod ImageLemmas
+pub mod KeyLemmas
+pub mod ListLemmas
 pub mod LookupLemmas
 pub mod PutLemmas
+pub mod RestLemmas
 pub mod RunLemmas
 pub mod StepLemmas

@@ -71,11 +71,11 @@ planned_append [] more all rest = rest
 planned_append (x ∷ actions) more all rest = (all.0, planned_append actions more all.1 rest)
 
 -- what holds of a plan, of its part that is left
-apply_rest : (w : World) (done rest : List Action) → AllApply w (done ++ rest) → AllApply (after_all w done) rest
+pub apply_rest : (w : World) (done rest : List Action) → AllApply w (done ++ rest) → AllApply (after_all w done) rest
 apply_rest w [] rest all = all
 apply_rest w (x ∷ done) rest all = apply_rest (after w x 0) done rest all.1
 
-sound_rest : (slots : ℕ) (done rest : List Action) → AllSound slots (done ++ rest) → AllSound slots rest
+pub sound_rest : (slots : ℕ) (done rest : List Action) → AllSound slots (done ++ rest) → AllSound slots rest
 sound_rest slots [] rest all = all
 sound_rest slots (x ∷ done) rest all = sound_rest slots done rest all.1
 

@@ -1,11 +1,12 @@
 -- How the definitions of one action hang together.
-use Rattle.std.proofs.Common.{◌≡◌, ◌⊎◌, inl, inr, ℕ, true, false, List, [], ◌∷◌, ◌++◌, length, Option, None, Some, refl, sym, ap, subst, arith}
+use Rattle.std.proofs.Common.{◌≡◌, ◌≢◌, ◌⊎◌, inl, inr, ⊎_elim, ℕ, true, false, List, [], ◌∷◌, ◌++◌, length, Option, None, Some, refl, sym, ap, subst, arith}
 use Rattle.std.specs.Prelude.{Result, Ok, Err}
 use Rattle.std.specs.FinMap.Entries.{where_key}
 use Rattle.std.proofs.lemmas.List.{take_all}
 use Rattle.ls_board.specs.declared.action.Action.{Action}
 use Rattle.ls_board.specs.declared.action.Action.TheVariants.{List as ListNames, Read, Make, Put, Poke, Remove, Sync, WeaverWrite, WeaverRead, GkSign, GkEnroll, GkVerify, GkForget, GkList, KeyPut, KeyOpen, KeyDrop, KeyList, ResumeStore, ResumeTake, Hear, Say, Now, Draw}
 use Rattle.ls_board.specs.declared.action.Answer.{Answer}
+use Rattle.ls_board.specs.declared.action.Answer.TheVariants.{Bytes}
 use Rattle.ls_board.specs.declared.action.BoardFault.{BoardFault}
 use Rattle.ls_board.specs.declared.action.BoardFault.TheVariants.{Failed, Memory}
 use Rattle.ls_board.specs.declared.touch.Touch.{Touch}
@@ -13,7 +14,7 @@ use Rattle.ls_board.specs.declared.touch.Touch.TheVariants.{Poked, Made, Other}
 use Rattle.ls_board.specs.declared.touch.Span.{Span}
 use Rattle.ls_board.specs.declared.world.World.{World}
 use Rattle.ls_board.specs.Order.{byte_cmp}
-use Rattle.ls_board.specs.Effect.{Mark, after, Answers, MayLack, marked}
+use Rattle.ls_board.specs.Effect.{Mark, after, Answers, HasShape, MayLack, marked}
 use Rattle.ls_board.specs.Images.{PokedFrom, MayHold, Within, MarkWithin, LeavesWithin, LeavesWithinCall, changing}
 use Rattle.ls_board.specs.Planned.{IsPlanned}
 use Rattle.ls_board.specs.Acts.{Sight, Moves}
@@ -104,3 +105,19 @@ pub stays : (old : Sight) (a : Action) (result : Result Answer BoardFault) (out 
 stays old a (Ok answer) out new m = inl (subst (Within old.world a) (sym m.done.1) (done_within old.world a answer out m.done.0))
 stays old a (Err (Failed p)) out new m = inl (m.failed p refl)
 stays old a (Err Memory) out new m = inr (m.lacking refl)
+
+-- ---- an answer without bytes
+
+bytes_there : (answer : Answer) (out : List ℕ) → answer ≡ Bytes → answer ≢ Bytes → out ≡ []
+bytes_there answer out is apart = absurd (apart is)
+
+-- an answer that isn't Bytes comes with none
+pub no_bytes : (a : Action) (answer : Answer) (out : List ℕ) → HasShape a answer out → answer ≢ Bytes → out ≡ []
+no_bytes ListNames answer out shape apart = bytes_there answer out shape.0 apart
+no_bytes (Read n) answer out shape apart = ⊎_elim (λ absent. absent.1) (λ is. bytes_there answer out is apart) shape
+no_bytes GkList answer out shape apart = bytes_there answer out shape.0 apart
+no_bytes (KeyOpen alias bytes) answer out shape apart = ⊎_elim (λ none. none.1) (λ rest. ⊎_elim (λ bad. bad.1) (λ is. bytes_there answer out is apart) rest) shape
+no_bytes KeyList answer out shape apart = bytes_there answer out shape.0 apart
+no_bytes (Hear max) answer out shape apart = ⊎_elim (λ ended. ended.1) (λ heard. bytes_there answer out heard.0 apart) shape
+no_bytes (Draw len) answer out shape apart = bytes_there answer out shape.0 apart
+no_bytes a answer out shape apart = shape.1

@@ -1,7 +1,8 @@
 -- What contracts see of a board, and what one call of `act` does to it.
-use Rattle.std.specs.Prelude.{◌≡◌, ◌≤◌, ◌+◌, ◌-◌, ◌^◌, ℕ, Bool, IsTrue, min, List, ◌∷◌, length, Option, Result, IfOk, OnOk, Err}
+use Rattle.std.specs.Prelude.{◌≡◌, ◌≢◌, ◌≤◌, ◌+◌, ◌-◌, ◌^◌, ℕ, Bool, IsTrue, min, List, [], ◌∷◌, length, Option, Result, IfOk, OnOk, Ok, Err}
 use Rattle.ls_board.specs.declared.action.Action.{Action}
 use Rattle.ls_board.specs.declared.action.Answer.{Answer}
+use Rattle.ls_board.specs.declared.action.Answer.TheVariants.{Bytes}
 use Rattle.ls_board.specs.declared.action.Part.{Part}
 use Rattle.ls_board.specs.declared.action.BoardFault.{BoardFault}
 use Rattle.ls_board.specs.declared.action.BoardFault.TheVariants.{Failed, Memory}
@@ -56,6 +57,8 @@ pub record Acts (old : Sight) (a : Action) (result : Result Answer BoardFault) (
   pub bytes : new.bytes + weight_of a ≡ old.bytes
   -- the answer is one of the action's row
   pub shape : IfOk result (λ answer. HasShape a answer out)
+  -- there are no bytes beside an answer that has none, nor after a fault
+  pub clear : result ≢ Ok Bytes → out ≡ []
   -- No count falls. Where the call doesn't fail all counts stay; where it does, that of the
   -- action's part rose.
   pub later : (p : Part) → old.faults p ≤ new.faults p

@@ -17,7 +17,7 @@ use Rattle.ls_board.specs.declared.touch.Touch.{Touch}
 use Rattle.ls_board.specs.declared.touch.Touch.TheVariants.{Poked, Made, Other}
 use Rattle.ls_board.specs.declared.world.World.{World}
 use Rattle.ls_board.specs.Order.{byte_cmp, without}
-use Rattle.ls_board.specs.Listing.{listing, key_fields, IsListing, IsFields}
+use Rattle.ls_board.specs.Listing.{IsListing, IsFields, IsListingOf, AreFieldsOf}
 use Rattle.ls_board.specs.Gatekeeper.{signed, no_fails, verified, verify_answer}
 use Rattle.ls_board.specs.Keys.{IsOpening}
 use Rattle.ls_tape.specs.Tape.{drawn, next_moment, later_moments}
@@ -168,7 +168,7 @@ IsDone answer out = IsAnswer Done answer out
 -- The answer to it, and the bytes that come with it. `Hear` gives any 1 to `max` bytes of what is
 -- left, as the board likes.
 abbrev pub Answers : World → Action → Answer → List ℕ → Type 0
-Answers w ListNames answer out = (answer ≡ Bytes) × (out ≡ listing w.files)
+Answers w ListNames answer out = (answer ≡ Bytes) × IsListingOf w.files out
 Answers w (Read n) answer out =
     MatchOption (file_at w n) ((answer ≡ Absent) × (out ≡ []))
     (λ bytes. (answer ≡ Bytes) × (out ≡ bytes))
@@ -186,11 +186,11 @@ Answers w (GkEnroll sid) answer out = IsDone answer out
 Answers w (GkVerify handle password moment) answer out =
     IsAnswer (verify_answer w.gk_key w.gk handle password moment) answer out
 Answers w (GkForget sid) answer out = IsDone answer out
-Answers w GkList answer out = (answer ≡ Bytes) × (out ≡ key_fields w.gk)
+Answers w GkList answer out = (answer ≡ Bytes) × AreFieldsOf w.gk out
 Answers w (KeyPut alias key) answer out = IsDone answer out
 Answers w (KeyOpen alias bytes) answer out = IsOpening w.keys alias bytes answer out
 Answers w (KeyDrop alias) answer out = IsDone answer out
-Answers w KeyList answer out = (answer ≡ Bytes) × (out ≡ key_fields w.keys)
+Answers w KeyList answer out = (answer ≡ Bytes) × AreFieldsOf w.keys out
 Answers w (ResumeStore key) answer out = IsDone answer out
 Answers w ResumeTake answer out = IsAnswer (cell_answer w.cell) answer out
 Answers w (Hear max) answer out =

@@ -9,5 +9,6 @@ pub mod Order
 pub mod Places
 pub mod Planned
 pub mod Reach
+pub mod Rest
 pub mod Runs
 pub mod Worlds

@@ -1,5 +1,5 @@
 -- The bytes by which a board gives its names and numbers.
-use Rattle.std.specs.Prelude.{◌≡◌, ◌<◌, ◌^◌, ℕ, List, [], ◌∷◌, ◌++◌}
+use Rattle.std.specs.Prelude.{◌≡◌, ◌<◌, ◌^◌, ℕ, List, [], ◌∷◌, ◌++◌, map}
 use Rattle.std.specs.Ordering.{nat_cmp}
 use Rattle.std.specs.List.{AllByRecursion, flat_map}
 use Rattle.ls_bytes.specs.Fields.{be64}
@@ -31,3 +31,13 @@ pub record IsFields (bytes : List ℕ) : Type 0 where
   pub each : AllByRecursion (λ number. number < 2 ^ 64) numbers
   pub ascending : IsAscending nat_cmp numbers
   pub is : bytes ≡ flat_map be64 numbers
+
+-- the listing of these files, each of which has a name
+pub record IsListingOf (files : List (List ℕ × List ℕ)) (out : List ℕ) : Type 0 where
+  pub is : out ≡ listing files
+  pub each : AllByRecursion IsName (map (λ file. file.0) files)
+
+-- the numbers of these rows, each of 64 bits
+pub record AreFieldsOf {X : Type 0} (rows : List (ℕ × X)) (out : List ℕ) : Type 0 where
+  pub is : out ≡ key_fields rows
+  pub each : AllByRecursion (λ number. number < 2 ^ 64) (map (λ row. row.0) rows)

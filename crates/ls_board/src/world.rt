@@ -113,9 +113,22 @@ impl World {
         Ok(world)
     }
 
-    // Makes the world the same as this one, one field at a time.
+    // Makes the world the same as this one.
     fn copy_into(&self, alloc: Global, world: &mut World) -> Result<(), Memory>
         ensures same { OnOk result (world.new ≡ self.now) }
+    {
+        self.copy_stored_into(alloc, world)?;
+        self.copy_streams_into(alloc, world)
+    }
+
+    // Makes the files and what the devices store the same, one field at a time.
+    fn copy_stored_into(&self, alloc: Global, world: &mut World) -> Result<(), Memory>
+        ensures same { OnOk result (world.new ≡ record self.now {
+          input = world.old.input;
+          said = world.old.said;
+          moments = world.old.moments;
+          noise = world.old.noise;
+        }) }
     {
         world.files = self.files.copy()?;
         world.touched = self.touched.copy()?;
@@ -124,6 +137,18 @@ impl World {
         world.gk = self.gk.copy(alloc)?;
         world.keys = self.keys.copy(alloc)?;
         world.cell = self.cell;
+        Ok(())
+    }
+
+    // Makes what is heard, said and drawn the same, one field at a time.
+    fn copy_streams_into(&self, alloc: Global, world: &mut World) -> Result<(), Memory>
+        ensures same { OnOk result (world.new ≡ record world.old {
+          input = self.now.input;
+          said = self.now.said;
+          moments = self.now.moments;
+          noise = self.now.noise;
+        }) }
+    {
         world.input = Bytes::of(alloc, self.input.as_slice())?;
         world.said = Bytes::of(alloc, self.said.as_slice())?;
         world.moments = copied_list(alloc, &self.moments)?;

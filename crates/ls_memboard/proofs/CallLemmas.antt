@@ -26,7 +26,7 @@ use Rattle.ls_board.specs.Gatekeeper.{sid_of, is_signed, counter_of, answer_by}
 use Rattle.ls_board.specs.Images.{MayHold, MarkWithin, Within, changing}
 use Rattle.ls_board.specs.Keys.{key_at, IsOpening}
 use Rattle.ls_board.specs.Acts.{Sight, CanAct, Acts, Rose}
-use Rattle.ls_board.proofs.StepLemmas.{done_within, whole_mark, where_all}
+use Rattle.ls_board.proofs.StepLemmas.{done_within, whole_mark, where_all, no_bytes}
 use Rattle.ls_board.proofs.FileLemmas.{with_file_same}
 use Rattle.ls_memboard.specs.Replay.{touched_only, after_call, number_of, is_in_file, call_fits}
 use Rattle.ls_memboard.specs.Failing.{most_heard, failed_world, FailsAsListed}
@@ -320,6 +320,7 @@ module _ (old new : Sight) (a : Action) where
     actions = noted.actions;
     bytes = noted.bytes;
     shape = answers_shape old.world a answer out lists answers;
+    clear = λ other. no_bytes a answer out (answers_shape old.world a answer out lists answers) (λ is. other (ap Ok is));
     later = λ p. omega (arith, noted.faults p, add-zero (old.faults p));
     quiet = same_faults true (length out) noted;
     cause = λ p is. absurd (cc);
@@ -332,15 +333,16 @@ module _ (old new : Sight) (a : Action) where
     };
   }
 
-  pub failed_acts : (whole : Bool) (count : ℕ) (out : List ℕ) → IsTrue old.told → IsTrue (is_sorted byte_cmp old.world.files) → CanAct old a → IsHearable old a count
+  pub failed_acts : (whole : Bool) (count : ℕ) (out : List ℕ) → out ≡ [] → IsTrue old.told → IsTrue (is_sorted byte_cmp old.world.files) → CanAct old a → IsHearable old a count
       → IsNoted old a whole true count new → Acts old a (Err (Failed (part_of a))) out new
-  failed_acts whole count out is_told sorted can h noted = record {
+  failed_acts whole count out none is_told sorted can h noted = record {
     told = noted.told;
     never_fails = noted.never_fails;
     slots = noted.slots;
     actions = noted.actions;
     bytes = noted.bytes;
     shape = tt;
+    clear = λ other. none;
     later = λ p. omega (arith, noted.faults p);
     quiet = tt;
     cause = λ p is. (sym (same_part p is), subst (λ (q : Part). Rose (old.faults q) (new.faults q)) (same_part p is) rose);
@@ -362,14 +364,15 @@ module _ (old new : Sight) (a : Action) where
           let more : new.faults (part_of a) ≡ old.faults (part_of a) + 1 = noted.faults (part_of a) ∙ ap (λ (b : Bool). old.faults (part_of a) + cond b 1 0) test in
           omega (arith, more)
 
-  pub lacking_acts : (out : List ℕ) → MayLack a → IsNoted old a false false 0 new → Acts old a (Err Memory) out new
-  lacking_acts out may noted = record {
+  pub lacking_acts : (out : List ℕ) → out ≡ [] → MayLack a → IsNoted old a false false 0 new → Acts old a (Err Memory) out new
+  lacking_acts out none may noted = record {
     told = noted.told;
     never_fails = noted.never_fails;
     slots = noted.slots;
     actions = noted.actions;
     bytes = noted.bytes;
     shape = tt;
+    clear = λ other. none;
     later = λ p. omega (arith, noted.faults p, add-zero (old.faults p));
     quiet = tt;
     cause = λ p is. absurd (cc);

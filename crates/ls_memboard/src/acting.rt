@@ -80,7 +80,7 @@ impl Board for MemBoard {
             self.note(a, done, true, count);
             return Err(BoardFault::Failed(a.part()));
         }
-        match self.answer(a, out) {
+        match self.answered(a, out) {
             Ok(answer) => {
                 self.note(a, true, false, out.len());
                 Ok(answer)

@@ -3,7 +3,7 @@ ghost use Rattle.std.specs.Prelude.{◌≡◌, ◌⊎◌, ◌≤◌, [], length,
 ghost use Rattle.ls_board.specs.Effect.{Answers, MayLack, file_at, slot_at, read_answer, cell_answer};
 ghost use Rattle.ls_board.specs.Gatekeeper.{verify_answer};
 ghost use Rattle.ls_board.specs.Keys.{IsOpening};
-ghost use Rattle.ls_board.specs.Listing.{listing, IsListing};
+ghost use Rattle.ls_board.specs.Listing.{IsListing, IsListingOf};
 ghost use Rattle.ls_board.specs.declared.action.Answer.TheVariants as answer;
 ghost use Rattle.ls_tape.specs.Tape.{drawn};
 ghost use Rattle.ls_weaver.specs.Slots.{blank_slot, slot_answer};
@@ -84,7 +84,7 @@ impl MemBoard {
     fn list(&self, out: &mut Vec<u8>) -> Result<Answer, Memory>
         requires empty { out.old.items ≡ [] }
         ensures listed { IfOk result (λ answer. (answer ≡ Answer.Bytes)
-            × (out.new.items ≡ listing (sight_of self.now).world.files)) }
+            × IsListingOf (sight_of self.now).world.files out.new.items) }
         ensures names { IfOk result (λ answer. IsListing out.new.items) }
     {
         let world = self.world()?;
@@ -137,8 +137,8 @@ impl MemBoard {
         }
     }
 
-    /// What the action answers.
-    pub(crate) fn answer(&self, a: &Action, out: &mut Vec<u8>) -> Result<Answer, Memory>
+    /// What the action answers. Where there is no memory for it, some of its bytes may be left.
+    fn answer(&self, a: &Action, out: &mut Vec<u8>) -> Result<Answer, Memory>
         requires empty { out.old.items ≡ [] }
         requires sound { IsSound (sight_of self.now).slots a.now }
         ensures answer { IfOk result (λ answer.
@@ -176,5 +176,22 @@ impl MemBoard {
             Action::Draw { len } => draw(self.alloc, devices.noise.rest(), *len, out),
             _ => Ok(Answer::Done),
         }
+    }
+
+    /// What the action answers. Where there is no memory for it, no bytes are left.
+    pub(crate) fn answered(&self, a: &Action, out: &mut Vec<u8>) -> Result<Answer, Memory>
+        requires empty { out.old.items ≡ [] }
+        requires sound { IsSound (sight_of self.now).slots a.now }
+        ensures answer { IfOk result (λ answer.
+            Answers (sight_of self.now).world a.now answer out.new.items) }
+        ensures lists { IfOk result (λ answer. ListsInOrder a.now out.new.items) }
+        ensures lacking { OnErr result (MayLack a.now) }
+        ensures clear { OnErr result (out.new.items ≡ []) }
+    {
+        let answer = self.answer(a, out);
+        if answer.is_err() {
+            out.clear();
+        }
+        answer
     }
 }

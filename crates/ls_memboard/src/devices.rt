@@ -90,14 +90,40 @@ impl Devices {
         })
     }
 
-    /// Takes over what the world has of devices, one at a time.
+    /// Takes over what the world has of devices.
     fn take(&mut self, alloc: Global, world: &World) -> Result<(), Memory>
         ensures same { OnOk result (beside self.new ≡ bare world.now) }
+    {
+        self.take_stored(alloc, world)?;
+        self.take_streams(alloc, world)
+    }
+
+    /// Takes over what the world's devices store, one at a time.
+    fn take_stored(&mut self, alloc: Global, world: &World) -> Result<(), Memory>
+        ensures taken { OnOk result (beside self.new ≡ record (beside self.old) {
+          slots = world.now.slots;
+          gk_key = world.now.gk_key;
+          gk = world.now.gk;
+          keys = world.now.keys;
+          cell = world.now.cell;
+        }) }
     {
         self.slots = world.slots.copy(alloc)?;
         self.gk = Gatekeeper::of(world.gk_key, world.gk.copy(alloc)?);
         self.keys = KeyStore::of(world.keys.copy(alloc)?);
         self.cell = ResumeCell::of(world.cell);
+        Ok(())
+    }
+
+    /// Takes over what the world hears, said and draws next, one at a time.
+    fn take_streams(&mut self, alloc: Global, world: &World) -> Result<(), Memory>
+        ensures taken { OnOk result (beside self.new ≡ record (beside self.old) {
+          input = world.now.input;
+          said = world.now.said;
+          moments = world.now.moments;
+          noise = world.now.noise;
+        }) }
+    {
         self.input = Tape::of(alloc, world.input.as_slice())?;
         self.said = world.said.as_slice().to_vec(alloc)?;
         self.moments = Tape::of(alloc, world.moments.as_slice())?;

@@ -22,15 +22,41 @@ fn copied<T: Copy + Drop>(alloc: Global, items: &[T]) -> Result<Rows<T>, Memory>
     Ok(list)
 }
 
-/// Makes the world's devices these, one at a time.
+/// Makes the world's devices these.
 fn take_devices(alloc: Global, world: &mut World, devices: &Devices) -> Result<(), Memory>
     ensures joined { OnOk result (world.new ≡ with_files_of (beside devices.now) world.old) }
+{
+    take_stored(alloc, world, devices)?;
+    take_streams(alloc, world, devices)
+}
+
+/// Makes these what the world's devices store, one at a time.
+fn take_stored(alloc: Global, world: &mut World, devices: &Devices) -> Result<(), Memory>
+    ensures taken { OnOk result (world.new ≡ record world.old {
+      slots = devices.now.slots;
+      gk_key = devices.now.gk.key;
+      gk = devices.now.gk.records;
+      keys = devices.now.keys.keys;
+      cell = devices.now.cell;
+    }) }
 {
     world.slots = devices.slots.copy(alloc)?;
     world.gk_key = devices.gk.key();
     world.gk = GkTable::of(devices.gk.records().copy(alloc)?);
     world.keys = KeyTable::of(devices.keys.keys().copy(alloc)?);
     world.cell = devices.cell.get();
+    Ok(())
+}
+
+/// Makes these what the world hears, said and draws next, one at a time.
+fn take_streams(alloc: Global, world: &mut World, devices: &Devices) -> Result<(), Memory>
+    ensures taken { OnOk result (world.new ≡ record world.old {
+      input = devices.now.input;
+      said = devices.now.said.items;
+      moments = devices.now.moments;
+      noise = devices.now.noise;
+    }) }
+{
     world.input = Bytes::of(alloc, devices.input.rest())?;
     world.said = Bytes::of(alloc, &devices.said)?;
     world.moments = copied(alloc, devices.moments.rest())?;

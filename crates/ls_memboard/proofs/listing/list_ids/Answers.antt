@@ -16,7 +16,7 @@ returns-clause-listed g c =
     let rows = c.args.rows.now.rows in
     let all : length rows ≤ c.loop-at.at = omega (arith, c.len-at-end.ensures.count, c.loop-at-test.false) in
     let listed = listed_all be64 (λ number. number < 2 ^ 64) rows c.loop-at.at c.loop-at.out.items all c.loop-at.invariant in
-    listed.is
+    record { is = listed.is; each = listed.each }
 
 pub returns-clause-numbers : goal.returns-clause-numbers
 returns-clause-numbers g c =

@@ -25,3 +25,10 @@ returns-clause-names c =
       ascending = keys_ascend byte_cmp files c.len-at-end.ensures.table.sorted;
       is = listed.is ∙ keys_listed line_of files;
     }
+
+pub returns-clause-listed : goal.returns-clause-listed
+returns-clause-listed c =
+    let files = c.args.files.now in
+    let all : length files ≤ c.loop-at.at = omega (arith, c.len-at-end.ensures.count, c.loop-at-test.false) in
+    let listed = listed_all line_of IsName files c.loop-at.at c.loop-at.out.items all c.loop-at.invariant in
+    record { is = listed.is; each = listed.each }

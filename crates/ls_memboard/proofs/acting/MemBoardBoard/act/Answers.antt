@@ -15,17 +15,19 @@ use Rattle.ls_memboard.proofs.acting.MemBoardBoard.act.Goals as goal
 pub returns-in-Some-clause-acts : goal.returns-in-Some-clause-acts
 returns-in-Some-clause-acts c =
     let s = c.args.self.now in
+    let none : c.clear.new.self.items ≡ [] = search rules in
     subst (λ (p : Part). Acts (sight_of s) c.args.a.now (Err (Failed p)) c.clear.new.self.items (sight_of c.note.new.self)) (sym c.part.ensures.part)
-    (failed_acts (sight_of s) (sight_of c.note.new.self) c.args.a.now c.in-Some.done c.could_hear-count.result c.clear.new.self.items refl s.in_step.in_order.files c.requires (subst (λ (n : ℕ). IsHearable (sight_of s) c.args.a.now n) (sym c.could_hear-count.ensures.most) (most_hearable (sight_of s) c.args.a.now)) c.note.ensures.noted)
+    (failed_acts (sight_of s) (sight_of c.note.new.self) c.args.a.now c.in-Some.done c.could_hear-count.result c.clear.new.self.items none refl s.in_step.in_order.files c.requires (subst (λ (n : ℕ). IsHearable (sight_of s) c.args.a.now n) (sym c.could_hear-count.ensures.most) (most_hearable (sight_of s) c.args.a.now)) c.note.ensures.noted)
 
 pub returns-in-Ok-clause-acts : goal.returns-in-Ok-clause-acts
 returns-in-Ok-clause-acts c =
-    let same : c.len-in-Ok.result ≡ length c.answer.new.out.items = search rules in
+    let same : c.len-in-Ok.result ≡ length c.answered.new.out.items = search rules in
     let noted = subst (λ (n : ℕ). IsNoted (sight_of c.args.self.now) c.args.a.now true false n (sight_of c.note-in-Ok.new.self)) same c.note-in-Ok.ensures.noted in
-    ok_acts (sight_of c.args.self.now) (sight_of c.note-in-Ok.new.self) c.args.a.now c.in-Ok.answer c.answer.new.out.items c.in-Ok.ensures.answer c.in-Ok.ensures.lists noted
+    ok_acts (sight_of c.args.self.now) (sight_of c.note-in-Ok.new.self) c.args.a.now c.in-Ok.answer c.answered.new.out.items c.in-Ok.ensures.answer c.in-Ok.ensures.lists noted
 
 pub returns-in-Err-clause-acts : goal.returns-in-Err-clause-acts
-returns-in-Err-clause-acts c = lacking_acts (sight_of c.args.self.now) (sight_of c.note-in-Err.new.self) c.args.a.now c.answer.new.out.items c.in-Err.ensures.lacking c.note-in-Err.ensures.noted
+returns-in-Err-clause-acts c =
+    lacking_acts (sight_of c.args.self.now) (sight_of c.note-in-Err.new.self) c.args.a.now c.answered.new.out.items c.in-Err.ensures.clear c.in-Err.ensures.lacking c.note-in-Err.ensures.noted
 
 pub returns-in-Some-clause-failing : goal.returns-in-Some-clause-failing
 returns-in-Some-clause-failing c =
