@@ -43,7 +43,7 @@ next_small d = omega arith
 
 -- ---- without one number
 
-other_contained : (ns : List ℕ) (d e : ℕ) → e ≢ d → contains (without_number ns d) e ≡ contains ns e
+pub other_contained : (ns : List ℕ) (d e : ℕ) → e ≢ d → contains (without_number ns d) e ≡ contains ns e
 other_contained [] d e differ = refl
 other_contained (n ∷ ns) d e differ = by_number (eqb n d) refl (other_contained ns d e differ)
   where
@@ -61,7 +61,7 @@ shorter (n ∷ ns) d = by_number (eqb n d) (shorter ns d)
     by_number true rest = omega (arith, rest)
     by_number false rest = omega (arith, rest)
 
-one_less : (ns : List ℕ) (d : ℕ) → contains ns d ≡ true → length (without_number ns d) < length ns
+pub one_less : (ns : List ℕ) (d : ℕ) → contains ns d ≡ true → length (without_number ns d) < length ns
 one_less [] d is = absurd (cc)
 one_less (n ∷ ns) d is = by_number (eqb n d) is (shorter ns d) (λ rest. one_less ns d rest)
   where

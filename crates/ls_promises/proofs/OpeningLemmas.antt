@@ -45,7 +45,7 @@ none_with ns n m differ none = none_of (with_number ns n) m (each_with (λ k. k 
 none_with_all : (more ns : List ℕ) (m : ℕ) → contains more m ≡ false → contains ns m ≡ false → contains (with_numbers ns more) m ≡ false
 none_with_all more ns m other none = none_of (with_numbers ns more) m (each_with_all (λ k. k ≢ m) more ns (others ns m none) (others more m other))
 
-none_without : (ns : List ℕ) (n m : ℕ) → contains ns m ≡ false → contains (without_number ns n) m ≡ false
+pub none_without : (ns : List ℕ) (n m : ℕ) → contains ns m ≡ false → contains (without_number ns n) m ≡ false
 none_without ns n m none = none_of (without_number ns n) m (λ k is same. let h = without_contains ns n k is in others ns m none k h.0 same)
 
 or_both : (a b : Bool) → (a || b) ≡ false → (a ≡ false) × (b ≡ false)

@@ -38,12 +38,12 @@ use Rattle.ls_vault.specs.declared.vault.Books.{Books}
 -- ---- what an accepted command tells
 
 -- its user is there
-of_accepted : (o : Option User) (cause : User → Option Refusal) → of_user o cause ≡ None → (v : User) × (o ≡ Some v) × (cause v ≡ None)
+pub of_accepted : (o : Option User) (cause : User → Option Refusal) → of_user o cause ≡ None → (v : User) × (o ≡ Some v) × (cause v ≡ None)
 of_accepted None cause is = absurd (cc)
 of_accepted (Some v) cause is = (v, refl, is)
 
 -- the test didn't refuse
-passed : (b : Bool) (why : Refusal) (r : Option Refusal) → cond b (Some why) r ≡ None → (b ≡ false) × (r ≡ None)
+pub passed : (b : Bool) (why : Refusal) (r : Option Refusal) → cond b (Some why) r ≡ None → (b ≡ false) × (r ≡ None)
 passed true why r is = absurd (cc)
 passed false why r is = (refl, is)
 

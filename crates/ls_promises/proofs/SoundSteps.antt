@@ -80,7 +80,7 @@ module _ (users : List User) (n : ℕ) where
       differ : None ≡ Some u → ⊥
       differ e = cc
 
-  none_waits : (pending : List PendingToken) → waiting (pending_of_others pending n) n ≡ 0
+  pub none_waits : (pending : List PendingToken) → waiting (pending_of_others pending n) n ≡ 0
   none_waits [] = refl
   none_waits (p ∷ pending) = by_test (eqb p.user n) refl (none_waits pending)
     where

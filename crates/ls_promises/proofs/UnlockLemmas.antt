@@ -40,7 +40,7 @@ pub same_kind_is : (a b : Kind) → same_kind a b ≡ true → a ≡ b
 same_kind_is a b is =
     let some : Some a ≡ Some b = sym (kind_again a) ∙ (ap kind_of (eqb_is (code_of a) (code_of b) is) ∙ kind_again b) in cc
 
-same_parts : (a b : KindAndText) → a.kind ≡ b.kind → a.text ≡ b.text → a ≡ b
+pub same_parts : (a b : KindAndText) → a.kind ≡ b.kind → a.text ≡ b.text → a ≡ b
 same_parts a b kind text =
     ap (λ (k : Kind). pair k a.text) kind ∙ ap (λ (t : List ℕ). pair b.kind t) text
   where

@@ -1,7 +1,11 @@
 pub mod Answers
+pub mod Consistency
 pub mod Counters
+pub mod Credentials
 pub mod FreshNumbers
 pub mod Lines
+pub mod PinLengths
 pub mod Secrets
 pub mod Soundness
+pub mod Tokens
 pub mod Unlocks

@@ -1,3 +1,4 @@
+mod BeginningLemmas
 mod PutLemmas
 mod ReadingLemmas
 pub mod ScriptGrammar

@@ -4,6 +4,7 @@
 
 mod command;
 mod details;
+mod laws;
 mod print;
 mod read;
 mod reply;
@@ -12,6 +13,7 @@ mod verb;
 mod words;
 
 pub use command::{Command, CommandList};
+pub use laws::lines_are_read_by_their_beginning;
 pub use ls_grammar::LineFault;
 pub use print::{print_fault, print_reply};
 pub use read::line;

@@ -3,7 +3,8 @@ ghost use Rattle.std.specs.Prelude.{◌≡◌, ◌<◌, ◌+◌, ◌^◌, IsFals
 ghost use Rattle.ls_vault.specs.Arming.{unarmed, prepared, armed, is_good, taken, all_opened};
 ghost use Rattle.ls_vault.specs.Arming.{resumed};
 ghost use Rattle.ls_vault.specs.Limits.{is_worn};
-ghost use Rattle.ls_vault.specs.States.{with_arming};
+ghost use Rattle.ls_vault.specs.States.{with_arming, refused};
+ghost use Rattle.ls_script.specs.declared.reply.Refusal.TheVariants as refusal;
 
 use crate::limits::is_worn;
 use crate::numbers::add_numbers;
@@ -90,13 +91,21 @@ pub(crate) fn resumed(alloc: Global, state: State) -> Result<Outcome, Memory>
         let state = ended(state, arming.users);
         Ok(Outcome { reply, state })
     } else {
-        let reply = Reply::No(Refusal::Expired {
-            armed: arming.boot,
-            boot: state.session.boot,
-        });
-        let state = ended(state, arming.users);
-        Ok(Outcome { reply, state })
+        Ok(expired(state, arming))
     }
+}
+
+/// The arming that was taken away opens no one any more.
+fn expired(state: State, arming: Arming) -> Outcome
+    ensures same { state.vault.arming ≡ None → result ≡ refused (taken state arming.users)
+        (refusal.Expired arming.boot state.session.boot) }
+{
+    let reply = Reply::No(Refusal::Expired {
+        armed: arming.boot,
+        boot: state.session.boot,
+    });
+    let left = ended(state, arming.users);
+    Outcome { reply, state: left }
 }
 
 /// The arming of these users was taken away: that is kept, or they are dead.

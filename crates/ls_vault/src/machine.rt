@@ -147,6 +147,24 @@ fn copy_of(alloc: Global, credential: &Credential) -> Result<Credential, Memory>
     })
 }
 
+/// The user gets a copy of this credential, and keeps its secret.
+fn change(
+    alloc: Global,
+    state: State,
+    user: u32,
+    credential: &Credential,
+    drawn: &[u8],
+) -> Result<Outcome, Memory>
+    requires kept { state.books.kept + 1 < 2 ^ 64 }
+    requires drawn { 8 ≤ length drawn.now }
+    ensures same { IfOk result (λ o. o ≡
+        effect 0 state (command.Change user credential.now) 0 drawn.now) }
+{
+    let new = copy_of(alloc, credential)?;
+    let state = credential_changed(alloc, state, user, new, drawn)?;
+    Ok(fine(state))
+}
+
 /// A new token waits. It is answered its id.
 fn token_added_fresh(
     alloc: Global,
@@ -185,10 +203,7 @@ fn effect(
         Command::Add { user, escrow } => Ok(fine(added(alloc, state, *user, *escrow, drawn)?)),
         Command::Drop { user } => Ok(fine(dropped(state, *user))),
         Command::Attempt { user, credential } => attempted(state, *user, credential, moment),
-        Command::Change { user, credential } => {
-            let new = copy_of(alloc, credential)?;
-            Ok(fine(credential_changed(alloc, state, *user, new, drawn)?))
-        }
+        Command::Change { user, credential } => change(alloc, state, *user, credential, drawn),
         Command::Lock { user } => Ok(fine(locked(state, *user))),
         Command::Status { user } => status(state, *user),
         Command::Users => users(alloc, state),
