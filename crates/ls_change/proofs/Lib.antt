@@ -1,5 +1,3 @@
 mod WeightLemmas
-mod CallLemmas
-mod RestLemmas
 mod ChangeLemmas
 mod SightLemmas

@@ -1,14 +1,15 @@
 -- A change of the vault: actions that build what the next record names, the commit of that record,
 -- and actions that take away what only the old record named.
-use Rattle.std.specs.Prelude.{◌≡◌, ◌⊎◌, ◌≤◌, List, ◌++◌, length, sum_by, []}
+use Rattle.std.specs.Prelude.{◌≡◌, ◌⊎◌, ◌≤◌, List, ◌++◌, length, sum_by, Ok}
 use Rattle.ls_record.specs.Rows.{Rec}
-use Rattle.ls_naming.specs.Current.{Settled}
+use Rattle.ls_naming.specs.Current.{Settled, current}
 use Rattle.ls_board.specs.declared.action.Action.{Action}
 use Rattle.ls_board.specs.declared.world.World.{World}
 use Rattle.ls_board.specs.Acts.{Sight}
-use Rattle.ls_board.specs.Effect.{weight_of}
+use Rattle.ls_board.specs.Effect.{weight_of, file_at}
 use Rattle.ls_board.specs.Reach.{AllTouchOnly}
-use Rattle.ls_board.specs.Runs.{after_all, AllApply, AllSound}
+use Rattle.ls_board.specs.Rest.{LeavesRest}
+use Rattle.ls_board.specs.Runs.{after_all, AllApply, AllSound, PlanImage}
 use Rattle.ls_settings.specs.Loaded.{Loaded, IsReady}
 use Rattle.ls_vault.specs.declared.vault.Vault.{Vault}
 use Rattle.ls_standing.specs.Standing.{Holds, NamedAreUntouched, StandsDurably}
@@ -49,15 +50,17 @@ pub record Readies (w : World) (k : Work) (v : Vault) : Type 0 where
   pub holds : Holds (staged w k) (next_of k) v
   pub untouched : NamedAreUntouched (staged w k) (next_of k)
 
+-- What a crash leaves of it, whatever the worlds stand for. The old settings are current or the next
+-- ones; what was done are the first of its actions, the last of them perhaps in part; and nothing was
+-- said, heard or drawn.
+pub record IsCut (w : World) (from : Settled) (k : Work) (image : World) : Type 0 where
+  pub either :
+      (current (file_at image) ≡ Ok from) ⊎ (current (file_at image) ≡ Ok k.commit.to.settled)
+  pub steps : PlanImage w (actions_of k) image
+  pub rest : LeavesRest w image
+
 -- What a crash leaves of it stands for the old vault, by the old settings, or for the new one, by
 -- the next settings; nothing was said, heard or drawn.
 pub record IsDuring (w : World) (from to : Settled) (old new : Vault) (image : World) : Type 0 where
   pub either : StandsDurably image from old ⊎ StandsDurably image to new
-  pub rest : image ≡ record w {
-    files = image.files;
-    touched = [];
-    slots = image.slots;
-    gk = image.gk;
-    keys = image.keys;
-    cell = image.cell;
-  }
+  pub rest : LeavesRest w image

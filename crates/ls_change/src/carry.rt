@@ -3,11 +3,13 @@ ghost use Rattle.std.specs.Prelude.{◌≡◌, ◌⊎◌, IsTrue, IfOk, OnOk, On
 ghost use Rattle.ls_board.specs.Acts.{Sight};
 ghost use Rattle.ls_board.specs.Runs.{Did, LeavesOnly};
 ghost use Rattle.ls_board.specs.Keeping.{Keeps};
+ghost use Rattle.ls_board.specs.Rest.{SameRest};
 ghost use Rattle.ls_settings.specs.Loaded.{IsReady};
 ghost use Rattle.ls_settings.specs.Commits.{IsCommit};
 ghost use Rattle.ls_vault.specs.declared.vault.Vault.{Vault as Vaults};
 ghost use Rattle.ls_standing.specs.Standing.{StandsDurably};
-ghost use Rattle.ls_change.specs.Work.{HasRoom, IsQuietWork, Readies, IsDuring, actions_of, next_of};
+ghost use Rattle.ls_change.specs.Work.{HasRoom, IsQuietWork, Readies, IsCut, IsDuring};
+ghost use Rattle.ls_change.specs.Work.{actions_of, next_of};
 
 use crate::work::Work;
 use ls_board::{Board, Part, run_plan};
@@ -32,6 +34,15 @@ pub fn carry_out<B: Board>(
     ensures did { OnOk result (Did (B.sight board.old) (actions_of work) (B.sight board.new)) }
     // A fault comes only where a count rose.
     ensures keeps { Keeps (λ part. part) (B.sight board.old) (B.sight board.new) result }
+    // Whatever it answers, nothing was said, heard or drawn, no moment was taken, and there are as
+    // many slots.
+    ensures rest { IsTrue (B.sight board.old).told
+        → SameRest (B.sight board.old).world (B.sight board.new).world }
+    // Whatever the worlds stand for, a crash leaves the old settings or the next ones, and no more
+    // was done than these actions do.
+    ensures cut { IsTrue (B.sight board.old).told
+        → LeavesOnly (B.sight board.old) (B.sight board.new)
+        (IsCut (B.sight board.old).world settings.old.settled work) }
     // A crash at any moment, or within any call, leaves the old vault or the new one, for every
     // vault for which the world stands.
     ensures crash { IsTrue (B.sight board.old).told → (old new : Vaults)

@@ -15,7 +15,6 @@ use Rattle.ls_formats.specs.PartNames.{settings_text}
 use Rattle.ls_record.specs.declared.fault.RecordFault.{RecordFault}
 use Rattle.ls_record.specs.declared.fault.RecordFault.TheVariants.{Short, Order, Limit, Extra}
 use Rattle.ls_record.specs.declared.fault.RecordFault.TheVariants.{Memory}
-use Rattle.ls_record.specs.declared.row.Armed.{Armed}
 use Rattle.ls_record.specs.Rows.{Rec, rec}
 use Rattle.ls_record.specs.Reading.{record_of}
 use Rattle.ls_record.specs.EditReading.{edited_of}
@@ -242,20 +241,3 @@ settings_of first second = said_by first second (current_side first second)
 -- the current settings among files
 abbrev pub current : Files → Result Settled Foreign
 current files = settings_of (files (settings_text First)) (files (settings_text Second))
-
--- ---- books
-
--- how many commits are kept, and whose resume is lost
-pub record Books : Type 0 where
-  pub kept : ℕ
-  pub dead : List ℕ
-
--- the armed users, where the cell holds no key
-abbrev pub dead_users : Option Armed → Option (List ℕ) → List ℕ
-dead_users None cell = []
-dead_users (Some a) None = a.users
-dead_users (Some a) (Some key) = []
-
--- the books of an image with these settings and this cell
-abbrev pub books : Settled → Option (List ℕ) → Books
-books s cell = record { kept = s.sequence; dead = dead_users s.rec.armed cell }

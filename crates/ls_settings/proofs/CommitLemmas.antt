@@ -1,5 +1,5 @@
 -- Every image of a commit has the old settings or the new ones.
-use Rattle.std.proofs.Common.{◌≡◌, ◌⊎◌, inl, inr, ◌<◌, ◌+◌, ◌^◌, ℕ, Bool, true, false, List, length, IsSomeAnd, Option, Some, None, Result, Ok, Err, sym, ◌∙◌, ap, subst, arith}
+use Rattle.std.proofs.Common.{◌≡◌, ◌⊎◌, inl, inr, ◌<◌, ◌+◌, ◌^◌, ℕ, Bool, true, false, List, length, IsSomeAnd, Option, Some, None, Result, Ok, Err, refl, sym, ◌∙◌, ap, subst, arith}
 use Rattle.ls_formats.specs.declared.side.Side.{Side}
 use Rattle.ls_naming.specs.Current.{current}
 use Rattle.ls_board.specs.declared.action.Action.{Action}
@@ -9,7 +9,7 @@ use Rattle.ls_board.specs.Images.{Leaves}
 use Rattle.ls_board.specs.declared.action.Part.{Part}
 use Rattle.ls_board.specs.Acts.{Sight, Rose}
 use Rattle.ls_board.specs.Keeping.{Keeps}
-use Rattle.ls_board.specs.Reach.{SameBut}
+use Rattle.ls_board.specs.Reach.{SameBut, AllTouchOnly}
 use Rattle.ls_board.specs.Runs.{PlanImage, after_all, AllApply, AllSound, LeavesOnly, FailedAfter}
 use Rattle.ls_board.proofs.RunLemmas.{weaker}
 use Rattle.ls_board.proofs.FrameLemmas.{plan_but, plan_same}
@@ -45,6 +45,18 @@ commit_sound from to actions commit slots = by commit.either
     by : IsByEntry from to actions ⊎ (¬ (HasEntry from.settled to.settled.rec) × IsInWhole from to actions) → AllSound slots actions
     by (inl e) = subst (AllSound slots) (sym e.does) (tt, (tt, (tt, (tt, tt))))
     by (inr (none, e)) = subst (AllSound slots) (sym e.does) (whole_sound (target_of from.settled.side) from.target_open (from.settled.sequence + 1) e.body)
+
+-- whatever the world is, they touch settings files alone
+pub commit_touches : (from to : Loaded) (actions : List Action) → IsCommit from to actions → AllTouchOnly settings_reach actions
+commit_touches from to actions commit = by commit.either
+  where
+    whole_touches : (aim : Side) (o : Bool) (sequence : ℕ) (body : List ℕ) → AllTouchOnly settings_reach (synced (whole_pokes aim o sequence body))
+    whole_touches aim true sequence body = ((aim, refl), (tt, ((aim, refl), (tt, ((aim, refl), (tt, tt))))))
+    whole_touches aim false sequence body = ((aim, refl), (tt, ((aim, refl), (tt, tt))))
+
+    by : IsByEntry from to actions ⊎ (¬ (HasEntry from.settled to.settled.rec) × IsInWhole from to actions) → AllTouchOnly settings_reach actions
+    by (inl e) = subst (AllTouchOnly settings_reach) (sym e.does) ((e.side, refl), (tt, ((e.side, refl), (tt, tt))))
+    by (inr (none, e)) = subst (AllTouchOnly settings_reach) (sym e.does) (whole_touches (target_of from.settled.side) from.target_open (from.settled.sequence + 1) e.body)
 
 -- ---- a plan that is run
 

@@ -13,6 +13,7 @@ mod CommitLemmas
 mod EntriesLemmas
 mod ContentLemmas
 mod ReadLemmas
-mod RunningLemmas
+pub mod RunningLemmas
 mod MakeLemmas
 mod LoadLemmas
+mod RuleLemmas

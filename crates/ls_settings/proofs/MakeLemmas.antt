@@ -21,9 +21,9 @@ use Rattle.ls_board.proofs.RunLemmas.{weaker, started}
 use Rattle.ls_settings.specs.Loaded.{Loaded, AreUntouched, IsWhole, other_side, target_of, is_side, settings_reach}
 use Rattle.ls_settings.specs.Commits.{synced}
 use Rattle.ls_settings.specs.FileReading.{file_of}
-use Rattle.ls_settings.specs.Loading.{is_whole, stays, made_file, makes_of, AreLoaded, IsFound, IsLoadImage, IsMakePlan, RunsPlan, MakesFiles}
+use Rattle.ls_settings.specs.Loading.{is_whole, stays, made_file, makes_of, AreLoaded, IsFound, IsSameOrShut, IsLoadImage, IsMakePlan, RunsPlan, MakesFiles}
 use Rattle.ls_settings.proofs.SideLemmas.{of_pair, alone, loses, current_pair, names_apart, current_of, current_alone, none_of}
-use Rattle.ls_settings.proofs.SyncedLemmas.{Holds, Pair, left_pair, then_synced, make_holds, make_pair, IsSameOrShut}
+use Rattle.ls_settings.proofs.SyncedLemmas.{Holds, Pair, left_pair, then_synced, make_holds, make_pair}
 
 -- ---- a file that isn't current
 
@@ -56,6 +56,44 @@ says_with : (side : Side) (mine other : Option (List ℕ)) (s : Settled) → of_
 says_with side mine other s says beside file (inl same) = ap (λ (f : Option (List ℕ)). of_pair side f other) same ∙ says
 says_with side mine other s says beside file (inr shut) = loses side file other shut ∙ alone_says side mine other s says beside
 
+-- ---- an image of loading, by the side of one file
+
+record Seen (side : Side) (mine other : Option (List ℕ)) (s : Settled) (image : World) : Type 0 where
+  says : current (file_at image) ≡ Ok s
+  mine_is : IsSameOrShut mine (file_at image (settings_text side))
+  other_is : IsSameOrShut other (file_at image (settings_text (other_side side)))
+
+-- and of both
+record Both (first second : Option (List ℕ)) (s : Settled) (image : World) : Type 0 where
+  says : current (file_at image) ≡ Ok s
+  each : (side : Side) → IsSameOrShut (file_of side first second) (file_at image (settings_text side))
+
+shut_on : (a b c : Option (List ℕ)) → IsSameOrShut a b → IsSameOrShut b c → IsSameOrShut a c
+shut_on a b c was (inr shut) = inr shut
+shut_on a b c (inl same) (inl again) = inl (again ∙ same)
+shut_on a b c (inr shut) (inl again) = inr (ap is_open again ∙ shut)
+
+from_first : (first second : Option (List ℕ)) (s : Settled) (image : World) → Seen First first second s image → Both first second s image
+from_first first second s image seen = record { says = seen.says; each = by }
+  where
+    by : (side : Side) → IsSameOrShut (file_of side first second) (file_at image (settings_text side))
+    by First = seen.mine_is
+    by Second = seen.other_is
+
+from_second : (first second : Option (List ℕ)) (s : Settled) (image : World) → Seen Second second first s image → Both first second s image
+from_second first second s image seen = record { says = seen.says; each = by }
+  where
+    by : (side : Side) → IsSameOrShut (file_of side first second) (file_at image (settings_text side))
+    by First = seen.other_is
+    by Second = seen.mine_is
+
+both_on : (f0 f1 g0 g1 : Option (List ℕ)) (s : Settled) (image : World) → IsSameOrShut f0 g0 → IsSameOrShut f1 g1 → Both g0 g1 s image → Both f0 f1 s image
+both_on f0 f1 g0 g1 s image first second both = record { says = both.says; each = by }
+  where
+    by : (side : Side) → IsSameOrShut (file_of side f0 f1) (file_at image (settings_text side))
+    by First = shut_on f0 g0 (file_at image (settings_text First)) first (both.each First)
+    by Second = shut_on f1 g1 (file_at image (settings_text Second)) second (both.each Second)
+
 -- ---- one file that is made
 
 abbrev make : Side → Action
@@ -68,20 +106,27 @@ made_there : (w : World) (side : Side) → file_at (then_synced w (make side)) (
 made_there w side = file_marked_other w (make_mark w (settings_text side) 4096) (settings_text (other_side side)) (names_apart side)
 
 module _ (w : World) (side : Side) (mine other : Option (List ℕ)) (s : Settled) (h : Holds w side mine other) (says : of_pair side mine other ≡ Ok s) (beside : is_side s.side side ≡ false) where
-  made_image : (image : World) → Pair image side (IsSameOrShut mine) other → current (file_at image) ≡ Ok s
-  made_image image pair =
+  made_says : (image : World) → Pair image side (IsSameOrShut mine) other → current (file_at image) ≡ Ok s
+  made_says image pair =
       current_pair (file_at image) side ∙ ap (of_pair side (file_at image (settings_text side))) pair.beside ∙ says_with side mine other s says beside (file_at image (settings_text side)) pair.target
 
-  make_step : (rest : List Action) (image : World) → PlanImage w (make side ∷ Sync ∷ rest) image → (current (file_at image) ≡ Ok s) ⊎ PlanImage (then_synced w (make side)) rest image
+  made_image : (image : World) → Pair image side (IsSameOrShut mine) other → Seen side mine other s image
+  made_image image pair = record { says = made_says image pair; mine_is = pair.target; other_is = inl pair.beside }
+
+  make_step : (rest : List Action) (image : World) → PlanImage w (make side ∷ Sync ∷ rest) image → Seen side mine other s image ⊎ PlanImage (then_synced w (make side)) rest image
   make_step rest image left = ⊎_elim (λ pair. inl (made_image image pair)) (λ later. inr later) (make_pair w side mine other h 4096 rest image left)
 
 says_zeros : (side : Side) (mine other : Option (List ℕ)) (s : Settled) → of_pair side mine other ≡ Ok s → is_side s.side side ≡ false → of_pair side zeros other ≡ Ok s
 says_zeros side mine other s says beside = says_with side mine other s says beside zeros (inr refl)
 
-left_says : (w image : World) (side : Side) (mine other : Option (List ℕ)) (s : Settled) → Holds w side mine other → of_pair side mine other ≡ Ok s → Leaves w image → current (file_at image) ≡ Ok s
-left_says w image side mine other s h says left =
+left_seen : (w image : World) (side : Side) (mine other : Option (List ℕ)) (s : Settled) → Holds w side mine other → of_pair side mine other ≡ Ok s → Leaves w image → Seen side mine other s image
+left_seen w image side mine other s h says left =
     let pair = left_pair w image side mine other h left in
-    current_pair (file_at image) side ∙ (λ i. of_pair side (pair.target i) (pair.beside i)) ∙ says
+    record {
+      says = current_pair (file_at image) side ∙ (λ i. of_pair side (pair.target i) (pair.beside i)) ∙ says;
+      mine_is = inl pair.target;
+      other_is = inl pair.beside;
+    }
 
 -- ---- both
 
@@ -96,7 +141,7 @@ record Made (w : World) (f0 f1 : Option (List ℕ)) (s : Settled) (b0 b1 : Bool)
   second : file_at (after_all w (plan_of b0 b1)) (settings_text Second) ≡ if_stays b1 f1
   says : settings_of (if_stays b0 f0) (if_stays b1 f1) ≡ Ok s
   untouched : AreUntouched w → AreUntouched (after_all w (plan_of b0 b1))
-  images : AreUntouched w → (image : World) → PlanImage w (plan_of b0 b1) image → current (file_at image) ≡ Ok s
+  images : AreUntouched w → (image : World) → PlanImage w (plan_of b0 b1) image → Both f0 f1 s image
   only : AllTouchOnly settings_reach (plan_of b0 b1)
 
 module _ (w : World) (f0 f1 : Option (List ℕ)) (s : Settled) (e0 : file_at w (settings_text First) ≡ f0) (e1 : file_at w (settings_text Second) ≡ f1) (says : settings_of f0 f1 ≡ Ok s) where
@@ -112,7 +157,7 @@ module _ (w : World) (f0 f1 : Option (List ℕ)) (s : Settled) (e0 : file_at w (
     second = e1;
     says = says;
     untouched = λ still. still;
-    images = λ still image left. left_says w image First f0 f1 s (h0 still) says left;
+    images = λ still image left. from_first f0 f1 s image (left_seen w image First f0 f1 s (h0 still) says left);
     only = tt;
   }
   both_made false true no0 no1 =
@@ -122,7 +167,8 @@ module _ (w : World) (f0 f1 : Option (List ℕ)) (s : Settled) (e0 : file_at w (
         second = made_there w First ∙ e1;
         says = new;
         untouched = λ still side. refl;
-        images = λ still image left. ⊎_elim (λ old. old) (λ last. left_says (then_synced w (make First)) image First zeros f1 s (make_holds w First f0 f1 (h0 still) 4096) new last)
+        images = λ still image left. ⊎_elim (λ seen. from_first f0 f1 s image seen)
+            (λ last. both_on f0 f1 zeros f1 s image (inr refl) (inl refl) (from_first zeros f1 s image (left_seen (then_synced w (make First)) image First zeros f1 s (make_holds w First f0 f1 (h0 still) 4096) new last)))
             (make_step w First f0 f1 s (h0 still) says (no0 refl) [] image left);
         only = ((First, refl), (tt, tt));
       }
@@ -133,7 +179,8 @@ module _ (w : World) (f0 f1 : Option (List ℕ)) (s : Settled) (e0 : file_at w (
         second = made_here w Second;
         says = new;
         untouched = λ still side. refl;
-        images = λ still image left. ⊎_elim (λ old. old) (λ last. left_says (then_synced w (make Second)) image Second zeros f0 s (make_holds w Second f1 f0 (h1 still) 4096) new last)
+        images = λ still image left. ⊎_elim (λ seen. from_second f0 f1 s image seen)
+            (λ last. both_on f0 f1 f0 zeros s image (inl refl) (inr refl) (from_second f0 zeros s image (left_seen (then_synced w (make Second)) image Second zeros f0 s (make_holds w Second f1 f0 (h1 still) 4096) new last)))
             (make_step w Second f1 f0 s (h1 still) says (no1 refl) [] image left);
         only = ((Second, refl), (tt, tt));
       }
@@ -149,7 +196,8 @@ module _ (w : World) (f0 f1 : Option (List ℕ)) (s : Settled) (e0 : file_at w (
         images = λ still image left.
             let k = make_holds w First f0 f1 (h0 still) 4096 in
             let m : Holds mid Second f1 zeros = record { file = k.beside; beside = k.file; still = k.still } in
-            ⊎_elim (λ old. old) (λ later. ⊎_elim (λ old. old) (λ last. left_says (then_synced mid (make Second)) image Second zeros zeros s (make_holds mid Second f1 zeros m 4096) new last)
+            ⊎_elim (λ seen. from_first f0 f1 s image seen) (λ later. ⊎_elim (λ seen. both_on f0 f1 zeros f1 s image (inr refl) (inl refl) (from_second zeros f1 s image seen))
+            (λ last. both_on f0 f1 zeros zeros s image (inr refl) (inr refl) (from_second zeros zeros s image (left_seen (then_synced mid (make Second)) image Second zeros zeros s (make_holds mid Second f1 zeros m 4096) new last)))
             (make_step mid Second f1 zeros s m half (no1 refl) [] image later))
             (make_step w First f0 f1 s (h0 still) says (no0 refl) (make Second ∷ Sync ∷ []) image left);
         only = ((First, refl), (tt, ((Second, refl), (tt, tt))));
@@ -234,7 +282,8 @@ module _ (w : World) (f0 f1 : Option (List ℕ)) (s : Loaded) (e0 : f0 ≡ file_
 
   load_image : AreUntouched w → (image : World) → PlanImage w plan image → IsLoadImage w image
   load_image still image left = record {
-    settled = made.images still image left ∙ sym before;
+    settled = (made.images still image left).says ∙ sym before;
+    each = λ side. subst (λ (f : Option (List ℕ)). IsSameOrShut f (file_at image (settings_text side))) (file_by side) ((made.images still image left).each side);
     rest = plan_but settings_reach w plan image made.only left;
   }
 
@@ -265,6 +314,7 @@ makes_files old new f0 f1 s e0 e1 found {T = T} {E = E} result runs = record {
 pub same_image : (w image : World) → AreUntouched w → Leaves w image → IsLoadImage w image
 same_image w image still left = record {
   settled = λ i. settings_of (untouched w image (settings_text First) (still First) left i) (untouched w image (settings_text Second) (still Second) left i);
+  each = λ side. inl (untouched w image (settings_text side) (still side) left);
   rest = (w, same_refl settings_reach w, left);
 }
 

@@ -1,4 +1,4 @@
--- A plan on the settings files that is run, behind the making of room.
+-- A plan that failed; and one on the settings files that is run, behind the making of room.
 use Rattle.std.proofs.Common.{◌≡◌, ℕ, zero, suc, IsTrue, List, [], ◌∷◌, take, slice_get, Option, Some, None, IsSomeAnd, Result, Ok, Err, refl, sym, ◌∙◌, ap, subst}
 use Rattle.ls_board.specs.declared.action.Action.{Action}
 use Rattle.ls_board.specs.declared.action.Part.{Part}
@@ -22,6 +22,17 @@ all_get reach zero (b ∷ plan) a all e =
     let is : b ≡ a = (let same : ◌≡◌ {A = Option Action} (Some b) (Some a) = e in cc) in
     subst (TouchesOnly reach) is all.0
 all_get reach (suc n) (b ∷ plan) a all e = all_get reach n plan a all.1 e
+
+-- what a plan that failed leaves alone
+pub failed_same : (reach : Reach) (old new : Sight) (plan : List Action) → AllTouchOnly reach plan → (at : ℕ) (part : Part)
+    → IsSomeAnd (slice_get plan at) (λ a. FailedAfter old (take at plan) a part new) → IsTrue old.told → SameBut reach old.world new.world
+failed_same reach old new plan only at part some told = by (slice_get plan at) refl some
+  where
+    by : (o : Option Action) → slice_get plan at ≡ o → IsSomeAnd o (λ a. FailedAfter old (take at plan) a part new) → SameBut reach old.world new.world
+    by None e none = absurd none
+    by (Some a) e after =
+        same_trans reach old.world (after_all old.world (take at plan)) new.world (plan_same reach old.world (take at plan) (all_take reach at plan only))
+        (same_within reach (after_all old.world (take at plan)) new.world a (all_get reach at plan a only e) (after.world told))
 
 module _ (old ready : Sight) (n m : ℕ) {E : Type 0} (made : Result Unit E) (readies : Readies old n m made ready) (plan : List Action) where
   ready_world : ready.world ≡ old.world
@@ -57,15 +68,8 @@ module _ (old ready : Sight) (n m : ℕ) {E : Type 0} (made : Result Unit E) (re
 
     -- it failed within an action
     pub failed : {T F : Type 0} (fault : F) → IsTrue old.told → (at : ℕ) (part : Part) → IsSomeAnd (slice_get plan at) (λ a. FailedAfter ready (take at plan) a part new) → RunsPlan old plan {T = T} {E = F} (Err fault) new
-    failed {T = T} {F = F} fault told at part some = by (slice_get plan at) refl some
-      where
-        by : (o : Option Action) → slice_get plan at ≡ o → IsSomeAnd o (λ a. FailedAfter ready (take at plan) a part new) → RunsPlan old plan {T = T} {E = F} (Err fault) new
-        by None e none = absurd none
-        by (Some a) e after =
-            let first = plan_same settings_reach ready.world (take at plan) (all_take settings_reach at plan makes.only) in
-            let second = same_within settings_reach (after_all ready.world (take at plan)) new.world a (all_get settings_reach at plan a makes.only e) (after.world (ready_told told)) in
-            record {
-              done = tt;
-              but = subst (λ (w : World). SameBut settings_reach w new.world) ready_world (same_trans settings_reach ready.world (after_all ready.world (take at plan)) new.world first second);
-              crash = whole_crash;
-            }
+    failed fault told at part some = record {
+      done = tt;
+      but = subst (λ (w : World). SameBut settings_reach w new.world) ready_world (failed_same settings_reach ready new plan makes.only at part some (ready_told told));
+      crash = whole_crash;
+    }

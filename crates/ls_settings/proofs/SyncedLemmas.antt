@@ -16,6 +16,7 @@ use Rattle.ls_board.proofs.CrashLemmas.{untouched, untouched_within, poke_images
 use Rattle.ls_board.proofs.FileLemmas.{file_marked_same, file_marked_other, touch_marked_same, touch_marked_other}
 use Rattle.ls_settings.specs.Loaded.{other_side}
 use Rattle.ls_settings.specs.Commits.{synced}
+use Rattle.ls_settings.specs.Loading.{IsSameOrShut}
 use Rattle.ls_settings.proofs.SideLemmas.{names_apart, some_names_apart}
 
 -- the two files hold these, and neither is touched
@@ -115,10 +116,6 @@ module _ (w : World) (side : Side) (bytes : List ℕ) (other : Option (List ℕ)
   poke_pair fits rest image (inr (inr (inr (inr later)))) = inr later
 
 -- ---- a file that is made
-
--- as it was, or not open
-abbrev pub IsSameOrShut : Option (List ℕ) → Option (List ℕ) → Type 0
-IsSameOrShut mine file = (file ≡ mine) ⊎ (is_open file ≡ false)
 
 zeros_shut : (n : ℕ) → is_open (Some (replicate n 0)) ≡ false
 zeros_shut zero = refl

@@ -1,5 +1,5 @@
 -- What loading does.
-use Rattle.std.specs.Prelude.{◌≡◌, ◌==◌, ◌||◌, ◌++◌, ℕ, Bool, false, if◌then◌else◌, List, [], ◌∷◌, length, replicate, Option, None, Some, Result, Ok, Err, IfOk, OnOk, IsOkAnd}
+use Rattle.std.specs.Prelude.{◌≡◌, ◌⊎◌, ◌==◌, ◌||◌, ◌++◌, ℕ, Bool, false, if◌then◌else◌, List, [], ◌∷◌, length, replicate, Option, None, Some, Result, Ok, Err, IfOk, OnOk, IsOkAnd}
 use Rattle.ls_formats.specs.declared.side.Side.{Side}
 use Rattle.ls_formats.specs.declared.side.Side.TheVariants.{First, Second}
 use Rattle.ls_formats.specs.PartNames.{settings_text}
@@ -92,9 +92,16 @@ pub record AreLoaded (old : World) (s : Loaded) (new : World) : Type 0 where
   pub untouched : AreUntouched old → AreUntouched new
   pub same : MakesNone (file_at old) s.settled.side → new ≡ old
 
--- what is current stays so, and so does all but the settings files
+-- as it was, or not open
+abbrev pub IsSameOrShut : Option (List ℕ) → Option (List ℕ) → Type 0
+IsSameOrShut old new = (new ≡ old) ⊎ (is_open new ≡ false)
+
+-- What is current stays so, each settings file is as it was or isn't open, and all but the settings
+-- files stays.
 pub record IsLoadImage (w image : World) : Type 0 where
   pub settled : current (file_at image) ≡ current (file_at w)
+  pub each : (side : Side)
+      → IsSameOrShut (file_at w (settings_text side)) (file_at image (settings_text side))
   pub rest : LeavesBut settings_reach w image
 
 -- the files that had to be made were made

@@ -40,8 +40,9 @@ impl Settings {
         ensures held { IsTrue (B.sight board.old).told → OnOk result ((image : Worlds)
             → Leaves (B.sight board.new).world image
             → current (file_at image) ≡ Ok plan.to.settled) }
-        ensures but { IsTrue (B.sight board.old).told → OnOk result
-            (SameBut settings_reach (B.sight board.old).world (B.sight board.new).world) }
+        // Whatever it answers, all but the settings files stays.
+        ensures but { IsTrue (B.sight board.old).told
+            → SameBut settings_reach (B.sight board.old).world (B.sight board.new).world }
     {
         match run_plan(board, &plan.plan) {
             Ok(()) => {

@@ -9,6 +9,7 @@ mod files;
 mod found;
 mod head;
 mod journal;
+mod laws;
 mod load;
 mod make;
 mod place;
@@ -17,5 +18,6 @@ mod prepare;
 mod settings;
 
 pub use fault::{OpenRefusal, PrepareFault};
+pub use laws::{commits_touch_settings_files_alone, current_records_keep_their_rules};
 pub use plan::{CommitPlan, Committed};
 pub use settings::Settings;

@@ -30,10 +30,15 @@ impl Model for Settings {
 }
 
 impl Settings {
+    ghost use Rattle.ls_record.specs.Rows.{IsRecord};
+
     /// The record. It keeps its rules.
     pub fn record(&self) -> &Record
         ensures same { result.now ≡ self.now.settled.rec }
+        ensures kept { IsRecord self.now.settled.rec }
     {
+        // a record keeps its rules, as is known where one of its fields is read
+        let _users = &self.record.users;
         &self.record
     }
 

@@ -60,6 +60,7 @@ user_counted row h u now c holds seals counts metrics = record {
   says = record {
     number = holds.says.number;
     kind = holds.says.kind;
+    rule = holds.says.rule;
     escrow = holds.says.escrow;
     auto = holds.says.auto;
     pin = holds.says.pin;

@@ -99,7 +99,7 @@ module _ (w image : World) (left : LeavesBut settings_reach w image) where
       let same = named_but_settings w left.0 r left.1 in
       named_trans w left.0 image r same (named_left left.0 image r (untouched_same r w left.0 same still) left.2)
 
-  image_stands : (s : Settled) (v : Vault) → current (file_at image) ≡ Ok s → IsTargetWhole image s.side → Holds w s.rec v → NamedAreUntouched w s.rec → StandsDurably image s v
+  pub image_stands : (s : Settled) (v : Vault) → current (file_at image) ≡ Ok s → IsTargetWhole image s.side → Holds w s.rec v → NamedAreUntouched w s.rec → StandsDurably image s v
   image_stands s v is target holds still = record {
     stands = record {
       settings = is;

@@ -19,3 +19,10 @@ pub mod ResumeLemmas
 pub mod AskingLemmas
 pub mod PassingLemmas
 pub mod SoundLemmas
+pub mod LoadingLemmas
+pub mod BareLemmas
+pub mod SweepLemmas
+pub mod LettingLemmas
+pub mod ListedLemmas
+pub mod StorageLemmas
+pub mod SeveralLemmas

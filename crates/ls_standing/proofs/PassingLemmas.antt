@@ -27,7 +27,9 @@ use Rattle.byteorder.specs.Endian.{big_number}
 use Rattle.ls_board.specs.Gatekeeper.{version_of, sid_of}
 use Rattle.ls_record.specs.Rows.{has}
 use Rattle.ls_standing.proofs.SlotFileLemmas.{of_slot, slot_passes}
-use Rattle.ls_standing.specs.Opening.{discardable_length, has_handle_length, number_at, Check, check, blob_place, fails, first_of, first_failing, Beside, part_checks, format_fault}
+use Rattle.ls_blob.specs.Parsing.{blob_place}
+use Rattle.ls_sealing.specs.PartFormats.{format_fault}
+use Rattle.ls_standing.specs.Opening.{discardable_length, has_handle_length, number_at, Check, check, fails, first_of, first_failing, Beside, part_checks}
 
 -- ---- checks
 

@@ -145,7 +145,7 @@ module _ (b : Bool) (armed : Option Armed) (row : UserRow) where
   credential_files = parts_of row.user row.protector (credential_parts b row.kind)
 
   -- the files of a row's protectors are files of the row
-  in_row : (p : Protector) (name : PartOf) → Contains (row_protectors row) p → Contains (protector_files b p) name → Contains (row_files b armed row) name
+  pub in_row : (p : Protector) (name : PartOf) → Contains (row_protectors row) p → Contains (protector_files b p) name → Contains (row_files b armed row) name
   in_row p name own within = Contains-append_right (own_files armed row) (credential_files ++ token_files b row) name (by (first_or_behind (credential_of row) (map (token_of row) row.tokens) p own))
     where
       by : (credential_of row ≡ p) ⊎ Contains (map (token_of row) row.tokens) p → Contains (credential_files ++ token_files b row) name

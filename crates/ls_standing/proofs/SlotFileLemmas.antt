@@ -16,7 +16,8 @@ use Rattle.ls_formats.proofs.FileLemmas.{format_lives}
 use Rattle.ls_record.specs.declared.row.UserRow.{UserRow}
 use Rattle.ls_record.specs.Rows.{has}
 use Rattle.ls_board.specs.declared.world.World.{World}
-use Rattle.ls_standing.specs.Opening.{beside, first_of, fails, first_failing, format_fault, Beside, is_new_slot, check, number_at, part_checks, file_fault}
+use Rattle.ls_sealing.specs.PartFormats.{format_fault}
+use Rattle.ls_standing.specs.Opening.{beside, first_of, fails, first_failing, Beside, is_new_slot, check, number_at, part_checks, file_fault}
 
 -- the content of the `weaver` file of this slot
 abbrev pub of_slot : ℕ → List ℕ

@@ -42,7 +42,8 @@ use Rattle.ls_sealing.specs.Seals.{content_of, IsPwdFile, IsHandleOf, slot_value
 use Rattle.ls_sealing.proofs.ByteLemmas.{signed_sid}
 use Rattle.ls_standing.specs.Named.{credential_of, token_of, user_file}
 use Rattle.ls_sealing.specs.Protectors.{Purpose, credential, token, Protector, Held, held, held_number, has_part, has_weaver, file_name, where_it_has}
-use Rattle.ls_standing.specs.Sound.{HoldsBytes, AllHoldBytes, IsOwnFile, IsSoundFile}
+use Rattle.ls_sealing.specs.HeldBytes.{HoldsBytes, AllHoldBytes}
+use Rattle.ls_standing.specs.Sound.{IsOwnFile, IsSoundFile}
 use Rattle.ls_standing.proofs.NamedLemmas.{name_of, part_found}
 use Rattle.ls_standing.proofs.PairLemmas.{each_in}
 use Rattle.ls_standing.proofs.ProtectorLemmas.{has_slot}

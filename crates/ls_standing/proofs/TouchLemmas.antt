@@ -25,7 +25,7 @@ use Rattle.ls_board.specs.declared.world.World.{World}
 use Rattle.ls_board.specs.Effect.{after}
 use Rattle.ls_board.specs.Gatekeeper.{sid_of}
 use Rattle.ls_board.specs.Reach.{Reach, TouchesOnly, AllTouchOnly}
-use Rattle.ls_sealing.specs.Protectors.{Protector, parts_for, is_enrolled, file_name, has_weaver}
+use Rattle.ls_sealing.specs.Protectors.{Protector, HasNumbers, parts_for, is_enrolled, file_name, has_weaver}
 use Rattle.ls_sealing.specs.Building.{Writing, slot_writes, writing_actions, removes, erasing_actions, retiring_actions}
 use Rattle.ls_standing.specs.Quiet.{IsUnnamed, unnamed, IsUnnamedProtector, IsQuiet, AllQuiet}
 use Rattle.ls_standing.specs.Same.{SameNamed}
@@ -36,7 +36,7 @@ use Rattle.ls_standing.proofs.QuietLemmas.{done_kept}
 
 -- ---- one reach within another
 
-record Inside (small big : Reach) : Type 0 where
+pub record Inside (small big : Reach) : Type 0 where
   pub file : (n : List ℕ) → small.files n → big.files n
   pub slot : (n : ℕ) → small.slots n → big.slots n
   pub sid : (n : ℕ) → small.sids n → big.sids n
@@ -60,7 +60,7 @@ module _ (small big : Reach) (inside : Inside small big) where
   touches_more ResumeTake only = inside.cell only
   touches_more a only = only
 
-  all_touch_more : (plan : List Action) → AllTouchOnly small plan → AllTouchOnly big plan
+  pub all_touch_more : (plan : List Action) → AllTouchOnly small plan → AllTouchOnly big plan
   all_touch_more [] only = tt
   all_touch_more (a ∷ plan) only = (touches_more a only.0, all_touch_more plan only.1)
 
@@ -100,13 +100,16 @@ name_in : PartOf → FileName → PartOf
 name_in name (Settings side) = name
 name_in name (ProtectorName other) = other
 
-pub file_unnamed : (w : World) (r : Rec) (name : PartOf) → IsRecord r → IsPartOf name → ¬ (NamesFile (has_weaver w) r name) → IsUnnamed w r (part_name_text name)
+-- files with one text are one
+pub same_name : (name other : PartOf) → IsPartOf name → IsPartOf other → part_name_text name ≡ part_name_text other → name ≡ other
 unfolding name_in
+same_name name other part also text = ap (name_in name) (names_apart (ProtectorName name) (ProtectorName other) part also text)
+
+pub file_unnamed : (w : World) (r : Rec) (name : PartOf) → IsRecord r → IsPartOf name → ¬ (NamesFile (has_weaver w) r name) → IsUnnamed w r (part_name_text name)
 file_unnamed w r name is part none = record {
   settings = no_settings name;
   named = λ other named text.
-      let same = names_apart (ProtectorName name) (ProtectorName other) part (record_named (has_weaver w) r is other named) text in
-      none (subst (NamesFile (has_weaver w) r) (sym (ap (name_in name) same)) named);
+      none (subst (NamesFile (has_weaver w) r) (sym (same_name name other part (record_named (has_weaver w) r is other named) text)) named);
 }
 
 -- ---- a protector that isn't named
@@ -155,18 +158,23 @@ named_id weaver r name named = by (Contains-append_cases one (two ++ three) name
     by (inl user) = let part = of_map (λ p. name_of row.user 0 p) (user_parts r.armed row) name user in inl (ap (λ (n : PartOf). n.id) (sym part.2))
     by (inr other) = inr (⊎_elim of_credential of_token (Contains-append_cases two three name other))
 
-module _ (w : World) (r : Rec) (p : Protector) (slot : Option ℕ) (is : IsRecord r) (un : IsUnnamedProtector w r p slot) where
-  pub files_unnamed : (part : FilePart) → IsUnnamed w r (file_name p part)
-  files_unnamed part = record {
+-- a file of an id that no named key has
+module _ (w : World) (r : Rec) (p : Protector) (is : IsRecord r) (has : HasNumbers p) (none : ¬ NamesKey r p.id) where
+  pub other_file : (part : FilePart) → IsUnnamed w r (file_name p part)
+  other_file part = record {
     settings = no_settings (name_of p.user p.id part);
-    named = λ name named text. apart name named (id_apart p.id name.id un.numbers.id (record_named (has_weaver w) r is name named).id
+    named = λ name named text. apart name named (id_apart p.id name.id has.id (record_named (has_weaver w) r is name named).id
         (id_digits (name_of p.user p.id part) (part_name_text name) text ∙ sym (id_digits name (part_name_text name) refl)));
   }
     where
       apart : (name : PartOf) → NamesFile (has_weaver w) r name → p.id ≢ name.id
       apart name named same =
-          let some = un.numbers.some in
-          ⊎_elim (λ zero_id. omega (arith, zero_id, same)) (λ key. un.key (subst (NamesKey r) (sym same) key)) (named_id (has_weaver w) r name named)
+          let some = has.some in
+          ⊎_elim (λ zero_id. omega (arith, zero_id, same)) (λ key. none (subst (NamesKey r) (sym same) key)) (named_id (has_weaver w) r name named)
+
+module _ (w : World) (r : Rec) (p : Protector) (slot : Option ℕ) (is : IsRecord r) (un : IsUnnamedProtector w r p slot) where
+  pub files_unnamed : (part : FilePart) → IsUnnamed w r (file_name p part)
+  files_unnamed = other_file w r p is un.numbers un.key
 
   touch_append : (xs ys : List Action) → AllTouchOnly (unnamed w r) xs → AllTouchOnly (unnamed w r) ys → AllTouchOnly (unnamed w r) (xs ++ ys)
   touch_append [] ys first second = second

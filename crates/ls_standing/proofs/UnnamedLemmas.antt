@@ -1,5 +1,5 @@
 -- A record names nothing of a protector that is elsewhere, or that it leaves out.
-use Rattle.std.proofs.Common.{◌≡◌, ◌≢◌, ◌⊎◌, inl, inr, ◌&&◌, not, ℕ, Bool, true, false, [], ◌∷◌, Option, None, Some, refl, sym, ap, subst, ◌∙◌, arith}
+use Rattle.std.proofs.Common.{◌≡◌, ◌≢◌, ◌<◌, ◌⊎◌, inl, inr, ◌&&◌, not, ℕ, Bool, true, false, [], ◌∷◌, Option, None, Some, refl, sym, ap, subst, ◌∙◌, arith}
 use Rattle.std.specs.Prelude.{map, is_some}
 use Rattle.std.specs.List.{flat_map, Contains}
 use Rattle.std.proofs.Math.Dec.{eqb}
@@ -21,7 +21,7 @@ use Rattle.ls_standing.proofs.IdLemmas.{even_not_odd, is_row, one_protector}
 use Rattle.ls_standing.proofs.ProtectorLemmas.{owned, numbers, one_id}
 
 -- the one element of a list that may be empty
-of_only_if : {X : Type 0} (b : Bool) (x y : X) → Contains (only_if b (x ∷ [])) y → (b ≡ true) × (x ≡ y)
+pub of_only_if : {X : Type 0} (b : Bool) (x y : X) → Contains (only_if b (x ∷ [])) y → (b ≡ true) × (x ≡ y)
 of_only_if false x y h = absurd (none_in y h)
 of_only_if true x y h = by (first_or_behind x [] y h)
   where
@@ -36,10 +36,10 @@ module _ (r : Rec) where
   abbrev pub HasProtector : ℕ → Type 0
   HasProtector id = (p : Protector) × NamesProtector r p × (p.id ≡ id)
 
-  protector_of : (row : UserRow) → Contains r.users row → HasProtector row.protector
+  pub protector_of : (row : UserRow) → Contains r.users row → HasProtector row.protector
   protector_of row h = (credential_of row, in_flat row_protectors r.users row (credential_of row) h (at_first (credential_of row) (map (token_of row) row.tokens)), refl)
 
-  token_protector : (row : UserRow) → Contains r.users row → (t : ℕ) → Contains row.tokens t → HasProtector t
+  pub token_protector : (row : UserRow) → Contains r.users row → (t : ℕ) → Contains row.tokens t → HasProtector t
   token_protector row h t k = (
     token_of row t,
     in_flat row_protectors r.users row (token_of row t) h
@@ -47,17 +47,21 @@ module _ (r : Rec) where
     refl,
   )
 
-  -- a named key is that of a protector, or of the arming
-  key_of : (alias : ℕ) → NamesKey r alias → HasProtector alias ⊎ (0 ≡ alias)
-  key_of alias h = by (Contains-append_cases (flat_map row_keys r.users) (only_if (is_some r.armed) (0 ∷ [])) alias h)
+  -- a key of a row is that of a protector
+  id_of_row : (alias : ℕ) → Contains (flat_map row_keys r.users) alias → HasProtector alias
+  id_of_row alias k = let row = of_flat row_keys r.users alias k in in_row row.0 row.1 (first_or_behind row.0.protector row.0.tokens alias row.2)
     where
       in_row : (row : UserRow) → Contains r.users row → (row.protector ≡ alias) ⊎ Contains row.tokens alias → HasProtector alias
       in_row row within (inl e) = subst HasProtector e (protector_of row within)
-      in_row row within (inr k) = token_protector row within alias k
+      in_row row within (inr t) = token_protector row within alias t
 
-      by : Contains (flat_map row_keys r.users) alias ⊎ Contains (only_if (is_some r.armed) (0 ∷ [])) alias → HasProtector alias ⊎ (0 ≡ alias)
-      by (inl k) = let row = of_flat row_keys r.users alias k in inl (in_row row.0 row.1 (first_or_behind row.0.protector row.0.tokens alias row.2))
-      by (inr k) = inr (of_only_if (is_some r.armed) 0 alias k).1
+  -- a named key is that of a protector, or of an arming
+  pub key_cases : (alias : ℕ) → NamesKey r alias → HasProtector alias ⊎ ((is_some r.armed ≡ true) × (0 ≡ alias))
+  key_cases alias h = by (Contains-append_cases (flat_map row_keys r.users) (only_if (is_some r.armed) (0 ∷ [])) alias h)
+    where
+      by : Contains (flat_map row_keys r.users) alias ⊎ Contains (only_if (is_some r.armed) (0 ∷ [])) alias → HasProtector alias ⊎ ((is_some r.armed ≡ true) × (0 ≡ alias))
+      by (inl k) = inl (id_of_row alias k)
+      by (inr k) = inr (of_only_if (is_some r.armed) 0 alias k)
 
   -- a secure id is odd
   secure_odd : (kind : Kind) (id : ℕ) → is_secure_id kind id ≡ true → not (eqb id 0) ≡ true → is_odd id ≡ true
@@ -96,6 +100,50 @@ module _ (r : Rec) where
       by : (row : UserRow) × Contains r.users row × Contains (row_protectors row) p → is_protector_id p.id ≡ true
       by (row, within, own) = in_row row within (first_or_behind (credential_of row) (map (token_of row) row.tokens) p own)
 
+-- ---- ids that none of them has
+
+pub other_key : (r : Rec) (alias : ℕ) → 0 < alias → ((q : Protector) → NamesProtector r q → q.id ≢ alias) → ¬ NamesKey r alias
+other_key r alias some others h = by (key_cases r alias h)
+  where
+    by : HasProtector r alias ⊎ ((is_some r.armed ≡ true) × (0 ≡ alias)) → ⊥
+    by (inl (q, named, same)) = others q named same
+    by (inr (armed, zero)) = omega (arith, some, zero)
+
+-- alias 0 is that of the arming alone
+pub zero_key : (r : Rec) → IsRecord r → r.armed ≡ None → ¬ NamesKey r 0
+zero_key r is none h = by (key_cases r 0 h)
+  where
+    by : HasProtector r 0 ⊎ ((is_some r.armed ≡ true) × (◌≡◌ {A = ℕ} 0 0)) → ⊥
+    by (inl (q, named, same)) = let some = (numbers r is q named).some in omega (arith, some, same)
+    by (inr (armed, zero)) = let bad : false ≡ true = sym (ap is_some none) ∙ armed in cc
+
+pub other_slot : (w : World) (r : Rec) (slot : ℕ) → ((q : Protector) → NamesProtector r q → held_number w q ≢ Some slot) → ¬ NamesSlot (has_weaver w) r (file_at w) slot
+other_slot w r slot others h = let found = owned w r slot h in others found.0 found.1 found.2
+
+module _ (weaver : Bool) (r : Rec) (sid : ℕ) (apart : (row : UserRow) → Contains r.users row → row.secure ≢ sid) where
+  -- a named record is that of a credential's protector, where it is none of a secure id
+  of_credential : (row : UserRow) → Contains r.users row → Contains (row_enrolled weaver row) sid → row.protector ≡ sid
+  of_credential row within own =
+      by (Contains-append_cases (only_if (has_secure row) (row.secure ∷ [])) (only_if (not weaver && has_credential row.kind) (row.protector ∷ [])) sid own)
+    where
+      by : Contains (only_if (has_secure row) (row.secure ∷ [])) sid ⊎ Contains (only_if (not weaver && has_credential row.kind) (row.protector ∷ [])) sid → row.protector ≡ sid
+      by (inl k) = absurd (apart row within (of_only_if (has_secure row) row.secure sid k).1)
+      by (inr k) = (of_only_if (not weaver && has_credential row.kind) row.protector sid k).1
+
+  named_record : NamesEnrolled weaver r sid → (row : UserRow) × Contains r.users row × (row.protector ≡ sid)
+  named_record h = let found = of_flat (row_enrolled weaver) r.users sid h in (found.0, found.1, of_credential found.0 found.1 found.2)
+
+pub other_record : (weaver : Bool) (r : Rec) (sid : ℕ) → ((q : Protector) → NamesProtector r q → q.id ≢ sid) → ((row : UserRow) → Contains r.users row → row.secure ≢ sid) → ¬ NamesEnrolled weaver r sid
+other_record weaver r sid others apart h =
+    let found = named_record weaver r sid apart h in
+    let p = protector_of r found.0 found.1 in
+    others p.0 p.1 (p.2 ∙ found.2)
+
+pub other_secure : (weaver : Bool) (r : Rec) (sid : ℕ) → IsRecord r → is_odd sid ≡ true → ((row : UserRow) → Contains r.users row → row.secure ≢ sid) → ¬ NamesEnrolled weaver r sid
+other_secure weaver r sid is odd apart h =
+    let found = named_record weaver r sid apart h in
+    even_not_odd found.0.protector sid (is_row r is found.0 found.1).protector.0 odd found.2
+
 -- ---- a protector that isn't named
 
 module _ (w : World) (r : Rec) (is : IsRecord r) (p : Protector) (slot : Option ℕ) (has : HasNumbers p)
@@ -105,11 +153,7 @@ module _ (w : World) (r : Rec) (is : IsRecord r) (p : Protector) (slot : Option 
   no_id (q, h, same) = (others q h).id_apart same
 
   no_key : ¬ NamesKey r p.id
-  no_key h = by (key_of r p.id h)
-    where
-      by : HasProtector r p.id ⊎ (0 ≡ p.id) → ⊥
-      by (inl k) = no_id k
-      by (inr none) = let some = has.some in omega (arith, some, none)
+  no_key = other_key r p.id has.some (λ q h. (others q h).id_apart)
 
   no_record : (weaver : Bool) → is_enrolled (is_some slot) p.purpose ≡ true → ¬ NamesEnrolled weaver r p.id
   no_record weaver enrolled h = by (record_of r is weaver p.id h)
@@ -119,7 +163,7 @@ module _ (w : World) (r : Rec) (is : IsRecord r) (p : Protector) (slot : Option 
       by (inr odd) = even_not_odd p.id p.id (even enrolled) odd refl
 
   no_slot : (n : ℕ) → slot ≡ Some n → ¬ NamesSlot (has_weaver w) r (file_at w) n
-  no_slot n same h = let found = owned w r n h in (others found.0 found.1).slot_apart n found.2 same
+  no_slot n same = other_slot w r n (λ q h number. (others q h).slot_apart n number same)
 
   pub unnamed_protector : IsUnnamedProtector w r p slot
   unnamed_protector = record { numbers = has; key = no_key; its_slot = no_slot; counter = no_record (has_weaver w) }

@@ -3,9 +3,14 @@ use Rattle.std.specs.Prelude.{ℕ}
 use Rattle.ls_board.specs.declared.action.Action.{Action}
 use Rattle.ls_board.specs.declared.action.Action.TheVariants.{WeaverRead, GkVerify}
 use Rattle.ls_board.specs.declared.devices.Counter.{Counter}
+use Rattle.ls_weaver.specs.declared.slot.Slot.{Slot}
 use Rattle.ls_vault.specs.declared.user.User.{User}
 use Rattle.ls_vault.specs.declared.vault.Vault.{Vault}
 use Rattle.ls_vault.specs.Users.{changed}
+
+-- the failures that a slot counts
+abbrev pub failures_of : Slot → Counter
+failures_of slot = record { fails = slot.fails; until = slot.until }
 
 -- the user with these failures
 abbrev pub with_failures : Counter → User → User

@@ -9,3 +9,6 @@ pub mod Quiet
 pub mod Same
 pub mod Texts
 pub mod SameTexts
+pub mod Clearing
+pub mod Several
+pub mod Books

@@ -6,18 +6,12 @@
 -- checked as an empty one, which has no format.
 use Rattle.std.specs.Prelude.{◌==◌, ◌&&◌, ◌||◌, ◌+◌, not, min, nat_lt, nat_le, ℕ, Bool, if◌then◌else◌, List, [], ◌∷◌, ◌++◌, map, length, drop, slice_index, unwrap_or, Option, None, Some}
 use Rattle.std.specs.List.{flat_map}
-use Rattle.std.specs.Option.{option_map}
 use Rattle.byteorder.specs.Endian.{big_number}
 use Rattle.ls_credential.specs.Codes.{code_of}
-use Rattle.ls_blob.specs.declared.fault.BlobFault.{BlobFault}
-use Rattle.ls_blob.specs.declared.fault.BlobFault.TheVariants.{Short, Version, Kind, Extra, Memory as NoMemory}
 use Rattle.ls_blob.specs.declared.kind.BlobKind.TheVariants.{Credential, StrongToken}
 use Rattle.ls_blob.specs.Kinds.{kind_byte}
-use Rattle.ls_blob.specs.Parsing.{first_fault as blob_fault}
 use Rattle.ls_formats.specs.declared.part.FilePart.{FilePart}
 use Rattle.ls_formats.specs.declared.part.FilePart.TheVariants.{SpBlob, Pwd, Secdis, Weaver, Metrics, Handle, E0, P1, Resume}
-use Rattle.ls_formats.specs.Format.{first_fault}
-use Rattle.ls_formats.specs.Files.{format_of}
 use Rattle.ls_formats.specs.PartNames.{PartOf, part_name_text}
 use Rattle.ls_record.specs.declared.row.UserRow.{UserRow}
 use Rattle.ls_record.specs.declared.row.Armed.{Armed}
@@ -26,6 +20,7 @@ use Rattle.ls_naming.specs.Named.{row_files}
 use Rattle.ls_naming.specs.Current.{Foreign}
 use Rattle.ls_board.specs.declared.world.World.{World}
 use Rattle.ls_board.specs.Effect.{file_at}
+use Rattle.ls_sealing.specs.PartFormats.{format_fault}
 use Rattle.ls_sealing.specs.Protectors.{has_weaver, slot_number}
 
 -- ---- checks
@@ -52,22 +47,7 @@ first_failing bytes [] = None
 first_failing bytes (c ∷ checks) =
     first_of (if fails bytes c then Some c.at else None) (first_failing bytes checks)
 
--- ---- the format of a file
-
--- the place of a blob's fault
-abbrev pub blob_place : BlobFault → ℕ
-blob_place (Short at) = at
-blob_place (Version version) = 0
-blob_place (Kind kind) = 1
-blob_place (Extra at) = at
-blob_place NoMemory = 0
-
--- the first place at which the bytes leave the format of the part
-abbrev pub format_fault : FilePart → List ℕ → Option ℕ
-format_fault SpBlob bytes = option_map blob_place (blob_fault bytes)
-format_fault part bytes = first_fault (format_of part) bytes
-
--- ---- what is checked beside it
+-- ---- what is checked beside the format
 
 -- What a file is checked against: the number of slots; the slots that earlier files name; the first
 -- byte of the blob of the user's credential.

@@ -34,3 +34,14 @@ pub record SameSettings (old new : World) : Type 0 where
       → file_at new (settings_text side) ≡ file_at old (settings_text side)
   pub touch : (side : Side)
       → touch_at old (settings_text side) ≡ None → touch_at new (settings_text side) ≡ None
+
+-- The worlds have the same files and the same devices. What is left to be heard, what was said, the
+-- clock and the noise may differ.
+pub record SameStorage (old new : World) : Type 0 where
+  pub files : new.files ≡ old.files
+  pub touched : new.touched ≡ old.touched
+  pub slots : new.slots ≡ old.slots
+  pub gk_key : new.gk_key ≡ old.gk_key
+  pub gk : new.gk ≡ old.gk
+  pub keys : new.keys ≡ old.keys
+  pub cell : new.cell ≡ old.cell

@@ -1,5 +1,5 @@
 -- What opening checks, said of each file alone and of the slots together.
-use Rattle.std.specs.Prelude.{◌≡◌, ◌<◌, ℕ, List, [], ◌∷◌, slice_index, Option, None, IfSome}
+use Rattle.std.specs.Prelude.{◌≡◌, ◌<◌, ℕ, List, [], ◌∷◌, Option, None}
 use Rattle.ls_formats.specs.declared.part.FilePart.{FilePart}
 use Rattle.ls_formats.specs.declared.part.FilePart.TheVariants.{Handle, E0, P1, Resume}
 use Rattle.ls_formats.specs.Contents.{AreBytes}
@@ -10,7 +10,7 @@ use Rattle.ls_naming.specs.Named.{NamesSlot}
 use Rattle.ls_board.specs.declared.world.World.{World}
 use Rattle.ls_board.specs.Effect.{file_at}
 use Rattle.ls_board.specs.Gatekeeper.{version_of, sid_of}
-use Rattle.ls_sealing.specs.Protectors.{Held, has_weaver}
+use Rattle.ls_sealing.specs.Protectors.{has_weaver}
 use Rattle.ls_standing.specs.Opening.{file_fault, beside, content_at}
 
 -- the row's file is whole and passes its checks, where no earlier file names a slot
@@ -21,14 +21,6 @@ IsSoundFile w row name = file_fault (beside w [] row) row name (content_at w nam
 abbrev pub SlotsAreNamedOnce : World → Rec → Type 0
 SlotsAreNamedOnce w r =
     (slot : ℕ) (one other : NamesSlot (has_weaver w) r (file_at w) slot) → one.name ≡ other.name
-
--- what a file holds are bytes
-abbrev pub HoldsBytes : Option (List ℕ) → Type 0
-HoldsBytes file = IfSome file (λ bytes. (i : ℕ) → slice_index bytes i < 256)
-
--- each file of a protector holds bytes
-abbrev pub AllHoldBytes : Held → Type 0
-AllHoldBytes h = (part : FilePart) → HoldsBytes (h.files part)
 
 -- A file of a user itself, as its format and its checks have it: a handle of version 1 and of the
 -- user's secure id; a sealed half of a secret, and the other half plain; or the version 1 and a

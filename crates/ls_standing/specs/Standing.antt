@@ -1,8 +1,8 @@
 -- When a world stands for a vault.
-use Rattle.std.specs.Prelude.{◌≡◌, ◌≢◌, ℕ, true, List, [], map, drop, Option, None, Some, IfSome, IsSomeAnd, MatchBool, Ok}
+use Rattle.std.specs.Prelude.{◌≡◌, ◌≢◌, ℕ, true, List, [], map, Option, None, Some, IfSome, IsSomeAnd, MatchBool, Ok}
 use Rattle.std.specs.List.{AllZip}
 use Rattle.std.specs.Option.{option_and_then}
-use Rattle.ls_gcm.specs.Gcm.{gcm_open}
+use Rattle.ls_credential.specs.Rules.{fault_of}
 use Rattle.ls_formats.specs.declared.part.FilePart.TheVariants.{Handle, E0, P1, Resume}
 use Rattle.ls_formats.specs.declared.side.Side.{Side}
 use Rattle.ls_formats.specs.PartNames.{PartOf, part_name_text, settings_text}
@@ -23,7 +23,7 @@ use Rattle.ls_vault.specs.declared.user.User.{User}
 use Rattle.ls_vault.specs.declared.vault.Vault.{Vault}
 use Rattle.ls_vault.specs.declared.vault.Arming.{Arming}
 use Rattle.ls_vault.specs.Revealed.{shown_length}
-use Rattle.ls_sealing.specs.Chain.{opened_outer}
+use Rattle.ls_sealing.specs.Chain.{opened_resume}
 use Rattle.ls_sealing.specs.Protectors.{Held, failures, has_weaver}
 use Rattle.ls_sealing.specs.Seals.{Seals, ShowsMetrics, SealsToken, CompletesTo}
 use Rattle.ls_standing.specs.Named.{UserHeld, RowHeld, held_of_row}
@@ -31,10 +31,11 @@ use Rattle.ls_standing.specs.Opening.{first_foreign}
 
 -- ---- one user
 
--- the row says what the record keeps of the user
+-- The row says what the record keeps of the user, whose credential keeps the rule of its kind.
 pub record SaysUser (row : UserRow) (u : User) : Type 0 where
   pub number : row.user ≡ u.number
   pub kind : row.kind ≡ u.credential.kind
+  pub rule : fault_of u.credential.kind u.credential.text ≡ None
   pub escrow : row.escrow ≡ u.escrow
   pub auto : row.auto ≡ u.auto
   pub pin : row.pin ≡ shown_length u
@@ -56,11 +57,6 @@ pub record HoldsHandle (h : UserHeld) (u : User) : Type 0 where
       handle ≡ signed h.device u.secure (salt_of handle)
       (subkey_bytes (subkey_of u.secret SpGkAuthentication)))
   pub counter : h.counter ≡ Some no_fails
-
--- what a `resume` file opens to: its outer layer by the key of alias 0, its inner one by a key that
--- is used once
-abbrev pub opened_resume : Option (List ℕ) → List ℕ → List ℕ → Option (List ℕ)
-opened_resume key once file = option_and_then (gcm_open once) (opened_outer key (drop 1 file))
 
 -- where it is armed and the cell holds a key, the `resume` file opens to the user's secret
 abbrev pub HoldsResume : UserHeld → User → Type 0

@@ -19,7 +19,7 @@ ghost use Rattle.ls_vault.specs.declared.vault.Vault.{Vault};
 ghost use Rattle.ls_weaver.specs.declared.slot.Slot.{Slot};
 ghost use Rattle.ls_weaver.specs.Slots.{slot_after};
 ghost use Rattle.ls_standing.specs.Named.{credential_of};
-ghost use Rattle.ls_standing.specs.Asking.{counted, IsAsking};
+ghost use Rattle.ls_standing.specs.Asking.{failures_of, counted, IsAsking};
 ghost use Rattle.ls_standing.specs.Standing.{Holds, NamedAreUntouched, StandsDurably};
 
 /// Where a world stands durably for a vault, and what the next record names is that of another one
@@ -57,9 +57,8 @@ pub fn asking_a_device_counts_for_its_user()
         (key : List ℕ) (moment : ℕ)
         → IsRecord s.rec → StandsDurably w s v → Contains s.rec.users row
         → held_number w (credential_of row) ≡ Some n → slice_get w.slots n ≡ Some slot
-        → let then = slot_after slot key moment in
-        StandsDurably (after w (WeaverRead n key moment) 0) s
-        (counted v row.user (record { fails = then.fails; until = then.until })) }
+        → StandsDurably (after w (WeaverRead n key moment) 0) s
+        (counted v row.user (failures_of (slot_after slot key moment))) }
     ensures check { (w : Worlds) (s : Settled) (v : Vault) (row : UserRow)
         (handle password : List ℕ) (moment : ℕ) (counter : Counter)
         → IsRecord s.rec → StandsDurably w s v → Contains s.rec.users row

@@ -9,7 +9,8 @@ ghost use Rattle.ls_sealing.specs.Seals.{Seals, ShowsMetrics, SealsToken};
 ghost use Rattle.ls_secret.specs.Secrets.{SecretValue};
 ghost use Rattle.ls_standing.specs.Named.{credential_of, token_of, user_file};
 ghost use Rattle.ls_standing.specs.Opening.{version_in};
-ghost use Rattle.ls_standing.specs.Sound.{IsSoundFile, AllHoldBytes, IsOwnFile};
+ghost use Rattle.ls_sealing.specs.HeldBytes.{AllHoldBytes};
+ghost use Rattle.ls_standing.specs.Sound.{IsSoundFile, IsOwnFile};
 
 /// Each file of a protector that seals passes the checks of opening, where its files hold bytes. A
 /// credential's blob says the version of the secret.

@@ -2,8 +2,11 @@ use Rattle.std.proofs.Common.{take, slice_get, ◌≡◌, ◌≤◌, List, lengt
 use Rattle.ls_board.specs.declared.action.Action.{Action}
 use Rattle.ls_board.specs.Effect.{weight_of}
 use Rattle.ls_board.specs.Runs.{AllSound}
+use Rattle.ls_board.specs.Reach.{AllTouchOnly}
 use Rattle.ls_settings.specs.Commits.{Prepared}
-use Rattle.ls_settings.proofs.CommitLemmas.{commit_sound, plan_applies, plan_crash, plan_ready, plan_held, plan_only, failed_keeps}
+use Rattle.ls_settings.proofs.CommitLemmas.{commit_sound, plan_applies, plan_crash, plan_ready, plan_held, plan_only, commit_touches, failed_keeps}
+use Rattle.ls_settings.specs.Loaded.{settings_reach}
+use Rattle.ls_settings.proofs.RunningLemmas.{failed_same}
 use Rattle.ls_settings.proofs.settings.Settings.commit.Goals as goal
 
 pub run_plan-requires : goal.run_plan-requires
@@ -47,3 +50,10 @@ pub returns-in-Err-clause-keeps : goal.returns-in-Err-clause-keeps
 returns-in-Err-clause-keeps g c =
     failed_keeps (g.B.Board.sight c.args.board.now) (g.B.Board.sight c.run_plan.new.board) (take c.in-Err.fault.at c.plan.inside.plan)
     (slice_get c.plan.inside.plan c.in-Err.fault.at) c.in-Err.fault.part c.in-Err.ensures.failed
+
+pub returns-in-Err-clause-but : goal.returns-in-Err-clause-but
+returns-in-Err-clause-but g c =
+    let is : c.plan.inside.plan ≡ c.args.plan.actions = ap (λ (p : Prepared). p.actions) c.plan.view_is in
+    failed_same settings_reach (g.B.Board.sight c.args.board.now) (g.B.Board.sight c.run_plan.new.board) c.plan.inside.plan
+    (subst (AllTouchOnly settings_reach) (sym is) (commit_touches c.args.self.now c.args.plan.to c.args.plan.actions c.requires.prepared))
+    c.in-Err.fault.at c.in-Err.fault.part c.in-Err.ensures.failed
