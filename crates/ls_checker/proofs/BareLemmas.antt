@@ -26,8 +26,8 @@ use Rattle.ls_checker.proofs.TableLemmas.{found_passes}
 
 -- ---- the files of users and protectors
 
-module _ (w : World) (r : Rec) (retired : List PartOf) where
-  stays_by : (name : FileName) (bytes : List ℕ) → IsFileName name → name_text name ≡ bytes → ¬ IsLeftover w r retired bytes → MayStay w r retired name
+module _ (w : World) (r : Rec) (retired : List (List ℕ)) where
+  stays_by : (name : FileName) (bytes : List ℕ) → IsFileName name → name_text name ≡ bytes → ¬ IsLeftover w r retired bytes → MayStay w r retired bytes name
   stays_by (Settings side) bytes is spelled none = tt
   stays_by (Protector part) bytes is spelled none = λ neither. none (record {
     name = part;
@@ -39,10 +39,10 @@ module _ (w : World) (r : Rec) (retired : List PartOf) where
 
   -- a name of the service's is no leftover where its file may stay
   pub read_decided : (bytes : List ℕ) (result : Result FileName FormatFault) (name : FileName) (b : Bool) → result ≡ Ok name
-      → Parses IsFileName name_text bytes result → IsTrue b ↔ MayStay w r retired name → IsTrue b ↔ (¬ IsLeftover w r retired bytes)
+      → Parses IsFileName name_text bytes result → IsTrue b ↔ MayStay w r retired bytes name → IsTrue b ↔ (¬ IsLeftover w r retired bytes)
   read_decided bytes result name b is parses decided =
       let read = subst (Parses IsFileName name_text bytes) is parses in (
-        λ stays left. subst (MayStay w r retired) (sym (read.2 (Protector left.name) left.part left.spelled)) (decided.0 stays) (left.unnamed, left.current),
+        λ stays left. subst (MayStay w r retired bytes) (sym (read.2 (Protector left.name) left.part left.spelled)) (decided.0 stays) (left.unnamed, left.current),
         λ none. decided.1 (stays_by name bytes read.0 read.1 none),
       )
 
@@ -54,10 +54,10 @@ module _ (w : World) (r : Rec) (retired : List PartOf) where
 
   -- no leftover is found where each part's file is named, retired or absent
   pub parts_decided : (b : Bool) → IsTrue b ↔ ((n : List ℕ) → IsLeftover w r retired n → file_at w n ≡ None)
-      → IsTrue b ↔ ((name : PartOf) → IsPartOf name → (¬ NamesFile (has_weaver w) r name) → (¬ Contains retired name) → file_at w (part_name_text name) ≡ None)
+      → IsTrue b ↔ ((name : PartOf) → IsPartOf name → (¬ NamesFile (has_weaver w) r name) → (¬ Contains retired (part_name_text name)) → file_at w (part_name_text name) ≡ None)
   parts_decided b decided = (
     λ is name part unnamed current. decided.0 is (part_name_text name) (record { name = name; part = part; spelled = refl; unnamed = unnamed; current = current }),
-    λ none. decided.1 (λ n left. subst (λ (m : List ℕ). file_at w m ≡ None) left.spelled (none left.name left.part left.unnamed left.current)),
+    λ none. decided.1 (λ n left. subst (λ (m : List ℕ). file_at w m ≡ None) left.spelled (none left.name left.part left.unnamed (λ has. left.current (subst (Contains retired) left.spelled has)))),
   )
 
 -- ---- the files of others

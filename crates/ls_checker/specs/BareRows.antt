@@ -16,18 +16,18 @@ abbrev pub HasKeyAt : {K X : Type 0} → (K → Type 0) → List (K × X) → �
 HasKeyAt P rows at = IfSome (slice_get rows at) (λ row. P row.0)
 
 -- the name of a file that the record doesn't name and that isn't retired
-pub record IsLeftover (w : World) (r : Rec) (retired : List PartOf) (n : List ℕ) : Type 0 where
+pub record IsLeftover (w : World) (r : Rec) (retired : List (List ℕ)) (n : List ℕ) : Type 0 where
   pub name : PartOf
   pub part : IsPartOf name
   pub spelled : part_name_text name ≡ n
   pub unnamed : ¬ (NamesFile (has_weaver w) r name)
-  pub current : ¬ (Contains retired name)
+  pub current : ¬ (Contains retired n)
 
--- a file of this name may be there
-abbrev pub MayStay : World → Rec → List PartOf → FileName → Type 0
-MayStay w r retired (Settings side) = Unit {0}
-MayStay w r retired (Protector name) =
-    ¬ ((¬ (NamesFile (has_weaver w) r name)) × (¬ (Contains retired name)))
+-- a file of this name, so spelled, may be there
+abbrev pub MayStay : World → Rec → List (List ℕ) → List ℕ → FileName → Type 0
+MayStay w r retired n (Settings side) = Unit {0}
+MayStay w r retired n (Protector name) =
+    ¬ ((¬ (NamesFile (has_weaver w) r name)) × (¬ (Contains retired n)))
 
 -- the file of this name is as at the start, if it is none of the service
 abbrev pub IsLeft : World → World → List ℕ → Type 0

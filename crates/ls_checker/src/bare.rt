@@ -6,8 +6,7 @@ use crate::bare_devices::{keeps_named_counters, keeps_named_keys, keeps_named_sl
 use crate::bare_files::{keeps_known_files, leaves_strange_files};
 use crate::quiet::is_disarmed;
 use ls_board::World;
-use ls_bytes::Memory;
-use ls_formats::PartName;
+use ls_bytes::{Memory, Name};
 use ls_record::Record;
 use std::alloc::Global;
 
@@ -25,7 +24,7 @@ pub fn is_bare(
     start: &World,
     world: &World,
     holder: &Record,
-    retired: &[PartName],
+    retired: &[Name],
 ) -> Result<bool, Memory>
     ensures decided { IfOk result (λ bare. IsTrue bare
         ↔ IsBare start.now world.now holder.now retired.now) }

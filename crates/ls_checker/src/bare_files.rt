@@ -12,52 +12,54 @@ ghost use Rattle.ls_standing.specs.Bare.{IsStrange};
 use crate::number::same_bytes;
 use crate::quiet::has_weaver;
 use ls_board::{FileTable, World};
-use ls_formats::{FileName, PartName};
+use ls_bytes::Name;
+use ls_formats::FileName;
 use ls_naming::names_file;
 use ls_record::Record;
 
 // ---- the files of users and protectors
 
-fn same_name(a: &PartName, b: &PartName) -> bool
-    ensures same { IsTrue result ↔ (a.now ≡ b.now) }
+fn is_name(a: &Name, name: &[u8]) -> bool
+    ensures same { IsTrue result ↔ (a.now ≡ name.now) }
 {
-    a == b
+    same_bytes(a.as_slice(), name)
 }
 
 /// Whether the name is one of these.
-fn is_one_of(names: &[PartName], name: &PartName) -> bool
+fn is_one_of(names: &[Name], name: &[u8]) -> bool
     ensures found { MatchBool result (Contains names.now name.now)
         (¬ Contains names.now name.now) }
 {
-    names.iter().any(|other| same_name(other, name))
+    names.iter().any(|other| is_name(other, name))
 }
 
 /// Whether a file of this name may be there: the record names it, or it is retired.
-fn may_stay(world: &World, holder: &Record, retired: &[PartName], name: &FileName) -> bool
+fn may_stay(world: &World, holder: &Record, retired: &[Name], name: &FileName, text: &[u8]) -> bool
     requires { IsFileName name.now }
-    ensures decided { IsTrue result ↔ MayStay world.now holder.now retired.now name.now }
+    ensures decided { IsTrue result
+        ↔ MayStay world.now holder.now retired.now text.now name.now }
 {
     match name {
         FileName::Settings(_) => true,
         FileName::Protector(name) => {
-            names_file(holder, has_weaver(world), name) || is_one_of(retired, name)
+            names_file(holder, has_weaver(world), name) || is_one_of(retired, text)
         }
     }
 }
 
 /// Whether it isn't the name of a file that has to be gone.
-fn is_no_leftover(world: &World, holder: &Record, retired: &[PartName], name: &[u8]) -> bool
+fn is_no_leftover(world: &World, holder: &Record, retired: &[Name], text: &[u8]) -> bool
     ensures decided { IsTrue result
-        ↔ (¬ IsLeftover world.now holder.now retired.now name.now) }
+        ↔ (¬ IsLeftover world.now holder.now retired.now text.now) }
 {
-    match FileName::parse(name) {
-        Ok(name) => may_stay(world, holder, retired, &name),
+    match FileName::parse(text) {
+        Ok(name) => may_stay(world, holder, retired, &name, text),
         Err(_) => true,
     }
 }
 
 /// Whether the row at this place, if there is one, may be there.
-fn keeps_row(world: &World, holder: &Record, retired: &[PartName], at: u32) -> bool
+fn keeps_row(world: &World, holder: &Record, retired: &[Name], at: u32) -> bool
     ensures decided { IsTrue result ↔ HasKeyAt
         (λ n. ¬ IsLeftover world.now holder.now retired.now n) world.now.files at }
 {
@@ -68,9 +70,9 @@ fn keeps_row(world: &World, holder: &Record, retired: &[PartName], at: u32) -> b
 }
 
 /// Whether each file of a user or a protector is one that the record names, or is retired.
-pub(crate) fn keeps_known_files(world: &World, holder: &Record, retired: &[PartName]) -> bool
+pub(crate) fn keeps_known_files(world: &World, holder: &Record, retired: &[Name]) -> bool
     ensures decided { IsTrue result ↔ ((name : PartOf) → IsPartOf name
-        → (¬ NamesFile (has_weaver world.now) holder.now name) → (¬ Contains retired.now name)
+        → (¬ NamesFile (has_weaver world.now) holder.now name) → (¬ Contains retired.now (part_name_text name))
         → file_at world.now (part_name_text name) ≡ None) }
 {
     for at in 0..world.files.len() {

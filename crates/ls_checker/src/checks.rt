@@ -1,20 +1,17 @@
 //! What is checked of one file.
-ghost use Rattle.std.specs.Prelude.{◌≡◌, ℕ, IfOk};
+ghost use Rattle.std.specs.Prelude.{◌≡◌, ℕ};
 ghost use Rattle.ls_record.specs.declared.row.UserRow.{UserRow as Row};
-ghost use Rattle.std.specs.Option.{option_map};
-ghost use Rattle.ls_blob.specs.Parsing.{first_fault as blob_fault};
 ghost use Rattle.ls_record.specs.Rows.{has};
 ghost use Rattle.ls_formats.specs.declared.part.FilePart.TheVariants as parts;
-ghost use Rattle.ls_standing.specs.Opening.{blob_place, format_fault, first_failing, part_checks, has_handle_length, file_fault, is_new_slot, Beside as BesideFile};
+ghost use Rattle.ls_standing.specs.Opening.{first_failing, part_checks, has_handle_length, file_fault, is_new_slot, Beside as BesideFile};
 
 use crate::number::byte_at;
 use crate::place::{first_of, unless_byte, unless_id, unless_right};
 use byteorder::{BigEndian, ByteOrder};
-use ls_blob::{BlobFault, SpBlob};
-use ls_bytes::{Memory, SlotList};
-use ls_formats::{FilePart, PartName, file_fault as part_fault};
+use ls_bytes::SlotList;
+use ls_formats::{FilePart, PartName};
 use ls_record::UserRow;
-use std::alloc::Global;
+use ls_sealing::format_fault;
 use std::marker::Model;
 
 /// What a file is checked against.
@@ -36,43 +33,7 @@ impl Model for Beside {
     ghost view = { λ b. record { slots = b.slots; earlier = b.earlier; version = b.version } };
 }
 
-// ---- the formats
-
-/// The place of a blob's fault.
-fn blob_place(fault: BlobFault) -> u32
-    ensures same { result ≡ blob_place fault }
-{
-    match fault {
-        BlobFault::Short { at } => at,
-        BlobFault::Version(_) => 0,
-        BlobFault::Kind(_) => 1,
-        BlobFault::Extra { at } => at,
-        BlobFault::Memory => 0,
-    }
-}
-
-/// The first place at which bytes are no blob.
-fn blob_fault(alloc: Global, bytes: &[u8]) -> Result<Option<u32>, Memory>
-    ensures same { IfOk result (λ at. at ≡ option_map blob_place (blob_fault bytes.now)) }
-{
-    match SpBlob::parse(alloc, bytes) {
-        Ok(_) => Ok(None),
-        Err(BlobFault::Memory) => Err(Memory),
-        Err(fault) => Ok(Some(blob_place(fault))),
-    }
-}
-
-/// The first place at which bytes leave the format of a part.
-fn format_fault(alloc: Global, part: FilePart, bytes: &[u8]) -> Result<Option<u32>, Memory>
-    ensures same { IfOk result (λ at. at ≡ format_fault part bytes.now) }
-{
-    if part == FilePart::SpBlob {
-        return blob_fault(alloc, bytes);
-    }
-    Ok(part_fault(part, bytes))
-}
-
-// ---- the checks beside them
+// ---- the checks beside the format
 
 /// The kind of a blob is that of its protector, and a token's version is that of the credential.
 fn spblob_fault(beside: &Beside, row: &UserRow, id: u64, bytes: &[u8]) -> Option<u32>
@@ -183,14 +144,13 @@ fn check_fault(beside: &Beside, row: &UserRow, name: &PartName, bytes: &[u8]) ->
 
 /// The first place at which a file that a row names is at fault.
 pub(crate) fn file_fault(
-    alloc: Global,
     beside: &Beside,
     row: &UserRow,
     name: &PartName,
     bytes: &[u8],
-) -> Result<Option<u32>, Memory>
-    ensures same { IfOk result (λ at. at ≡ file_fault beside.now row.now name.now bytes.now) }
+) -> Option<u32>
+    ensures same { result ≡ file_fault beside.now row.now name.now bytes.now }
 {
-    let format = format_fault(alloc, name.part, bytes)?;
-    Ok(first_of(format, check_fault(beside, row, name, bytes)))
+    let format = format_fault(name.part, bytes);
+    first_of(format, check_fault(beside, row, name, bytes))
 }

@@ -12,12 +12,13 @@ ghost use Rattle.ls_standing.specs.Named.{held_of_row, held_of_user, token_of};
 ghost use Rattle.ls_standing.specs.Standing.{HoldsEscrow};
 
 use crate::user_files::user_file;
+use ls_blob::opened_under;
 use ls_board::World;
 use ls_bytes::{Bytes, Memory};
 use ls_formats::FilePart;
 use ls_record::{Armed, UserRow};
 use ls_secret::Secret;
-use ls_unsealing::{HeldParts, Protector, Purpose, completes, opened_under, seals_token};
+use ls_unsealing::{HeldParts, Protector, Purpose, completes, seals_token};
 use ls_vault::{Token, User};
 use std::alloc::Global;
 

@@ -13,7 +13,8 @@ ghost use Rattle.ls_board.specs.Gatekeeper.{signed, salt_of, no_fails, record_at
 ghost use Rattle.ls_board.specs.Keys.{key_at};
 ghost use Rattle.ls_sealing.specs.Protectors.{where_it_has};
 ghost use Rattle.ls_standing.specs.Named.{held_of_user, is_its_part};
-ghost use Rattle.ls_standing.specs.Standing.{HoldsHandle, HoldsResume, opened_resume};
+ghost use Rattle.ls_sealing.specs.Chain.{opened_resume};
+ghost use Rattle.ls_standing.specs.Standing.{HoldsHandle, HoldsResume};
 
 use crate::files::part_file;
 use crate::number::same_bytes;

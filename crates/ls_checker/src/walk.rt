@@ -98,7 +98,7 @@ fn pass_file(
     }
     let bytes = content(alloc, world, name)?;
     let bytes = bytes.as_slice();
-    let fault = file_fault(alloc, &walk.beside, row, name, bytes)?;
+    let fault = file_fault(&walk.beside, row, name, bytes);
     walk.foreign = foreign_at(name, fault);
     add_slot(&mut walk.beside.earlier, name.part, bytes)
 }

@@ -6,6 +6,7 @@ use Rattle.sha2.specs.Sha256.{sha256, digest_bytes}
 use Rattle.byteorder.specs.Endian.{big_number}
 use Rattle.byteorder.specs.Numbers.{big_from-lt}
 use Rattle.ls_bytes.specs.Fields.{be64}
+use Rattle.ls_bytes.proofs.ByteListLemmas.{bytes_take}
 use Rattle.ls_bytes.proofs.FieldLemmas.{big_number-be64}
 use Rattle.ls_hash.specs.Hmac.{hmac_sha256}
 use Rattle.ls_formats.specs.Contents.{AreBytes}
@@ -15,17 +16,11 @@ use Rattle.ls_sealing.specs.Draws.{piece}
 
 -- ---- pieces
 
-pub small_take : (n : ℕ) (xs : List ℕ) → ((i : ℕ) → get_or xs i 0 < 256) → (i : ℕ) → get_or (take n xs) i 0 < 256
-small_take zero xs small i = omega arith
-small_take (suc n) [] small i = omega arith
-small_take (suc n) (x ∷ xs) small zero = small 0
-small_take (suc n) (x ∷ xs) small (suc i) = small_take n xs (λ k. small (suc k)) i
-
 -- a piece that lies in the drawn bytes
 pub piece_are : (n at len : ℕ) (drawn : List ℕ) → AreBytes n drawn → at + len ≤ n → AreBytes len (piece at len drawn)
 piece_are n at len drawn are le = record {
   long = length-take-le len (drop at drawn) (omega (arith, length-drop at drawn, are.long));
-  each = small_take len (drop at drawn) (λ i. subst (λ (k : ℕ). k < 256) (sym (get_or-drop at drawn i 0)) (are.each (at + i)));
+  each = bytes_take len (drop at drawn) (λ i. subst (λ (k : ℕ). k < 256) (sym (get_or-drop at drawn i 0)) (are.each (at + i)));
 }
 
 pub whole_piece : (n : ℕ) (xs : List ℕ) → length xs ≡ n → piece 0 n xs ≡ xs

@@ -24,7 +24,8 @@ use Rattle.ls_sealing.specs.Protectors.{credential, where_it_has, Held}
 use Rattle.ls_sealing.specs.Seals.{IsPwdFile, IsHandleOf, Seals, ShowsMetrics}
 use Rattle.ls_sealing.specs.Draws.{CredentialDraw, credential_draw, credential_draw_size, piece}
 use Rattle.ls_sealing.specs.Building.{Writing, held_of, new_stretched, new_share, new_handle, credential_writing}
-use Rattle.ls_sealing.proofs.ByteLemmas.{small_take, piece_are, number_small, signed_are, signed_salt}
+use Rattle.ls_bytes.proofs.ByteListLemmas.{bytes_take}
+use Rattle.ls_sealing.proofs.ByteLemmas.{piece_are, number_small, signed_are, signed_salt}
 use Rattle.ls_sealing.proofs.LayerLemmas.{layers_open, length-layered, version_is, length_sp, blob_spells}
 
 -- ---- what is drawn
@@ -52,7 +53,7 @@ draw_by has drawn = record {
 }
 
 small_piece : (n at len : ℕ) (drawn : List ℕ) → AreBytes n drawn → big_number 8 (piece at len drawn) < 2 ^ 64
-small_piece n at len drawn are = number_small (piece at len drawn) (small_take len (drop at drawn) (λ i. subst (λ (k : ℕ). k < 256) (sym (get_or-drop at drawn i 0)) (are.each (at + i))))
+small_piece n at len drawn are = number_small (piece at len drawn) (bytes_take len (drop at drawn) (λ i. subst (λ (k : ℕ). k < 256) (sym (get_or-drop at drawn i 0)) (are.each (at + i))))
 
 is_draw_by : (has : Bool) (slot : Option ℕ) (drawn : List ℕ) → AreBytes ((if has then 84 else 56) + (if is_some slot then 16 else 16384 + (if has then 8 else 0))) drawn → IsDraw has slot (draw_by has drawn)
 is_draw_by true None drawn are = record {

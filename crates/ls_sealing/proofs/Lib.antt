@@ -11,3 +11,4 @@ pub mod ApartLemmas
 pub mod PlanLemmas
 pub mod DeviceLemmas
 pub mod RetiringLemmas
+pub mod WrittenBytesLemmas

@@ -1,5 +1,5 @@
 -- How the secret of a protector derives from what is offered and from what devices and files hold.
-use Rattle.std.specs.Prelude.{◌^◌, ℕ, List, take, codes, Option, None, Some}
+use Rattle.std.specs.Prelude.{◌^◌, ℕ, List, take, drop, codes, Option, None, Some}
 use Rattle.std.specs.Option.{option_and_then}
 use Rattle.ls_hash.specs.Padding.{padded}
 use Rattle.ls_hash.specs.Personal.{personalised_hash}
@@ -73,3 +73,10 @@ opened_outer key content = option_and_then (λ k. gcm_open k content) key
 abbrev pub opened_layers : Option (List ℕ) → List ℕ → List ℕ → Option (List ℕ)
 opened_layers key secret content =
     option_and_then (opened_under secret layer_personal) (opened_outer key content)
+
+-- ---- a `resume` file
+
+-- what it opens to behind its version: its outer layer by the key of alias 0, its inner one by a key
+-- that is used once
+abbrev pub opened_resume : Option (List ℕ) → List ℕ → List ℕ → Option (List ℕ)
+opened_resume key once file = option_and_then (gcm_open once) (opened_outer key (drop 1 file))

@@ -1,6 +1,8 @@
 pub mod Chain
+pub mod PartFormats
 pub mod Protectors
 pub mod Seals
+pub mod HeldBytes
 pub mod Apart
 pub mod Draws
 pub mod Building

@@ -8,6 +8,7 @@ ghost use Rattle.ls_sealing.specs.Chain.{layered};
 use ls_blob::seal_under;
 use ls_bytes::{Bytes, Memory};
 use ls_credential::{Credential, Kind};
+use ls_formats::PwdData;
 use ls_gcm::seal;
 use ls_hash::phash;
 use ls_scrypt::{Cost, stretch};
@@ -55,6 +56,19 @@ pub fn stretched(
     } else {
         Ok(stretched_default())
     }
+}
+
+/// A text, stretched with the salt and at the cost that a `pwd` file says.
+pub fn stretched_by(alloc: Global, pwd: &PwdData, text: &[u8]) -> Result<[u8; 32], Memory>
+    ensures same { IfOk result (λ stretched. stretched
+        ≡ stretched_at pwd.now.log_n pwd.now.log_r pwd.now.log_p pwd.now.salt text.now) }
+{
+    let cost = Cost {
+        log_n: pwd.log_n,
+        log_r: pwd.log_r,
+        log_p: pwd.log_p,
+    };
+    stretch(alloc, text, &pwd.salt, cost)
 }
 
 /// The key by which a stretched text reads its Weaver slot.

@@ -13,6 +13,8 @@ ghost use Rattle.ls_sealing.specs.Chain.{stretched, weaver_key, gatekeeper_passw
 ghost use Rattle.ls_sealing.specs.Readings.{after_reading, with_record};
 ghost use Rattle.ls_board.specs.declared.world.World.{World as Worlds};
 ghost use Rattle.ls_board.specs.Runs.{after_all, AllPlanned, AllApply, AllSound};
+ghost use Rattle.ls_credential.specs.declared.kind.Kind.TheVariants as Kind;
+ghost use Rattle.ls_credential.specs.Counts.{metrics_of, IsSmall};
 ghost use Rattle.ls_credential.specs.Rules.{KindAndText};
 ghost use Rattle.ls_formats.specs.declared.part.FilePart.TheVariants.{Weaver, Pwd};
 ghost use Rattle.ls_formats.specs.Contents.{AreBytes, pwd_of};
@@ -20,6 +22,7 @@ ghost use Rattle.ls_secret.specs.Secrets.{SecretValue, IsSecret};
 ghost use Rattle.ls_sealing.specs.Protectors.{Protector, HasNumbers, Held, held, held_number};
 ghost use Rattle.ls_sealing.specs.Protectors.{is_enrolled, has_weaver, nothing_held};
 ghost use Rattle.ls_sealing.specs.Seals.{Seals, ShowsMetrics, SealsToken, CompletesTo, IsTokenSlot};
+ghost use Rattle.ls_sealing.specs.HeldBytes.{AllHoldBytes};
 ghost use Rattle.ls_sealing.specs.Sparing.{SameParts, IsUntouched, Spares, reach_of};
 ghost use Rattle.ls_board.specs.Reach.{AllTouchOnly};
 ghost use Rattle.ls_board.specs.Images.{Leaves};
@@ -60,6 +63,24 @@ pub fn what_is_written_seals()
         → let offer = for_token bytes s.version p0 in
         SealsToken (held_of (purpose_of offer) slot (writing_of id slot offer drawn gk_key) gk_key)
         p1 bytes s p0 }
+{}
+
+/// What is written for a credential or a token are bytes, where what is drawn are bytes and the counts
+/// of the credential, or the half of the secret, are too.
+pub fn what_is_written_holds_bytes()
+    ensures credential { (id : ℕ) (slot : Option ℕ) (c : KindAndText) (s : SecretValue)
+        (drawn gk_key : List ℕ)
+        → IsSecret s → (c.kind ≢ Kind.Empty → IsSmall (metrics_of c))
+        → AreBytes (credential_draw_size (is_some slot) c.kind) drawn
+        → let offer = for_credential c s in
+        AllHoldBytes
+        (held_of (purpose_of offer) slot (writing_of id slot offer drawn gk_key) gk_key) }
+    ensures token { (id : ℕ) (slot : Option ℕ) (bytes p0 : List ℕ) (s : SecretValue)
+        (drawn gk_key : List ℕ)
+        → IsSecret s → AreBytes 32 p0 → AreBytes (token_draw_size (is_some slot)) drawn
+        → let offer = for_token bytes s.version p0 in
+        AllHoldBytes
+        (held_of (purpose_of offer) slot (writing_of id slot offer drawn gk_key) gk_key) }
 {}
 
 /// After the actions that build a protector, in any world, it seals what was offered.

@@ -4,7 +4,7 @@ ghost use Rattle.ls_blob.specs.declared.kind.BlobKind.TheVariants.{Credential as
 ghost use Rattle.ls_formats.specs.Contents.{Pwd, IsPwd, pwd_of};
 ghost use Rattle.ls_formats.specs.declared.part.FilePart.TheVariants.{Pwd as PwdPart, Secdis};
 ghost use Rattle.ls_board.specs.Gatekeeper.{signed, salt_of};
-ghost use Rattle.ls_sealing.specs.Chain.{stretched, stretched_at, stretched_default, weaver_key, value_share};
+ghost use Rattle.ls_sealing.specs.Chain.{stretched, stretched_default, weaver_key, value_share};
 ghost use Rattle.ls_sealing.specs.Seals.{Seals, HasKind, IsPwdFile, Accepts, IsHandleOf};
 ghost use Rattle.ls_sealing.specs.Seals.{discardable_size, slot_value, credential_share, HasBlob, blob_text};
 ghost use Rattle.ls_secret.specs.Secrets.{IsSecret};
@@ -12,16 +12,16 @@ ghost use Rattle.ls_unsealing.specs.Parts.{held_by};
 
 use crate::opening::opened_blob;
 use crate::parts::HeldParts;
-use crate::text::{is_text, joined};
+use crate::text::is_text;
 use byteorder::{BigEndian, ByteOrder};
 use ls_blob::BlobKind;
-use ls_bytes::{Bytes, Memory};
+use ls_bytes::{Bytes, Memory, joined};
 use ls_credential::{Credential, Kind};
 use ls_formats::PwdData;
 use ls_gatekeeper::Gatekeeper;
-use ls_scrypt::{Cost, stretch};
 use ls_sealing::{
-    discardable_share, gatekeeper_password, stretched_default, value_share, weaver_key,
+    discardable_share, gatekeeper_password, stretched_by, stretched_default, value_share,
+    weaver_key,
 };
 use ls_secret::Secret;
 use ls_weaver::Slot;
@@ -50,19 +50,6 @@ fn stored_pwd(file: &[u8], weaver: bool, kind: Kind) -> Option<PwdData>
         return None;
     }
     Some(pwd)
-}
-
-/// A text, stretched as a `pwd` file says.
-fn stretched_by(alloc: Global, pwd: &PwdData, text: &[u8]) -> Result<[u8; 32], Memory>
-    ensures same { IfOk result (λ stretched. stretched
-        ≡ stretched_at pwd.now.log_n pwd.now.log_r pwd.now.log_p pwd.now.salt text.now) }
-{
-    let cost = Cost {
-        log_n: pwd.log_n,
-        log_r: pwd.log_r,
-        log_p: pwd.log_p,
-    };
-    stretch(alloc, text, &pwd.salt, cost)
 }
 
 // ---- the devices

@@ -13,7 +13,7 @@ mod token;
 
 pub use credential::seals;
 pub use metrics::shows_metrics;
-pub use opening::{opened_layers, opened_under};
+pub use opening::opened_layers;
 pub use parts::{HeldParts, PartFiles};
 pub use protector::{Protector, Purpose};
 pub use token::{completes, seals_token};

@@ -4,9 +4,9 @@ ghost use Rattle.ls_formats.specs.Contents.{metrics_bytes};
 ghost use Rattle.ls_sealing.specs.Seals.{ShowsMetrics};
 ghost use Rattle.ls_unsealing.specs.Parts.{held_by};
 
-use crate::opening::opened_under;
 use crate::parts::HeldParts;
 use crate::text::is_text;
+use ls_blob::opened_under;
 use ls_bytes::Memory;
 use ls_credential::{Credential, Kind, Metrics};
 use ls_secret::{Personal, Secret};

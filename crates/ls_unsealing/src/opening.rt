@@ -1,42 +1,15 @@
 //! What opens, by keys that may be wrong.
-ghost use Rattle.std.specs.Prelude.{◌≡◌, ◌⊎◌, ◌≤◌, length, None, Some, Ok, Err, IfOk, IfSome, IfNone, IsSomeAnd, MatchOption};
+ghost use Rattle.std.specs.Prelude.{◌≡◌, None, Some, IfOk, IfSome, IfNone, IsSomeAnd};
 ghost use Rattle.ls_blob.specs.Blobs.{Spells};
-ghost use Rattle.ls_blob.specs.Personal.{opened_under};
 ghost use Rattle.ls_sealing.specs.Chain.{opened_outer, opened_layers};
 ghost use Rattle.ls_sealing.specs.Seals.{content_of, HasBlob, blob_text};
 ghost use Rattle.ls_unsealing.specs.Parts.{held_by};
 
 use crate::parts::HeldParts;
-use ls_blob::{BlobFault, BlobKind, SpBlob, open_under};
+use ls_blob::{BlobFault, BlobKind, SpBlob, opened_under};
 use ls_bytes::{Bytes, Memory};
-use ls_gcm::{OpenFault, open};
+use ls_gcm::opened;
 use std::alloc::Global;
-
-/// The text of an opening, if it opened.
-fn text_of(opening: Result<Bytes, OpenFault>) -> Result<Option<Bytes>, Memory>
-    ensures text { IfOk result (λ text. MatchOption text
-        ((opening ≡ Err OpenFault.Short) ⊎ (opening ≡ Err OpenFault.Tag))
-        (λ t. opening ≡ Ok t)) }
-{
-    match opening {
-        Ok(text) => Ok(Some(text)),
-        Err(OpenFault::Memory) => Err(Memory),
-        Err(_) => Ok(None),
-    }
-}
-
-/// What a sealed text opens to under a key and a personalisation of at most 128 bytes.
-pub fn opened_under(
-    alloc: Global,
-    key: &[u8],
-    personal: &[u8],
-    sealed: &[u8],
-) -> Result<Option<Bytes>, Memory>
-    requires { length personal.now ≤ 128 }
-    ensures same { IfOk result (λ text. text ≡ opened_under key.now personal.now sealed.now) }
-{
-    text_of(open_under(alloc, key, personal, sealed))
-}
 
 /// What the outer layer opens to, by the key in the key store, if there is one.
 fn opened_outer(
@@ -48,7 +21,7 @@ fn opened_outer(
 {
     match key {
         None => Ok(None),
-        Some(key) => text_of(open(alloc, key, content)),
+        Some(key) => opened(alloc, key, content),
     }
 }
 

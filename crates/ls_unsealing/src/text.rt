@@ -1,8 +1,7 @@
-//! Texts that may be there, and two texts joined.
-ghost use Rattle.std.specs.Prelude.{◌≡◌, ◌↔◌, ◌++◌, IsTrue, Some, IfOk};
+//! Texts that may be there.
+ghost use Rattle.std.specs.Prelude.{◌≡◌, ◌↔◌, IsTrue, Some};
 
-use ls_bytes::{Bytes, Memory, put_bytes};
-use std::alloc::Global;
+use ls_bytes::Bytes;
 
 /// Whether the text is there and is this one.
 pub(crate) fn is_text(text: &Option<Bytes>, expected: &[u8]) -> bool
@@ -19,13 +18,4 @@ pub(crate) fn is_same(a: &[u8], b: &[u8]) -> bool
     ensures same { IsTrue result ↔ (a.now ≡ b.now) }
 {
     a == b
-}
-
-/// One list of bytes behind another.
-pub(crate) fn joined(alloc: Global, front: &[u8], back: &[u8]) -> Result<Bytes, Memory>
-    ensures same { IfOk result (λ bytes. bytes ≡ front.now ++ back.now) }
-{
-    let mut bytes = Bytes::of(alloc, front)?;
-    put_bytes(&mut bytes, back)?;
-    Ok(bytes)
 }

@@ -6,11 +6,11 @@ ghost use Rattle.ls_sealing.specs.Seals.{SealsToken, IsTokenSlot, slot_value, di
 ghost use Rattle.ls_sealing.specs.Seals.{CompletesTo, HasBlob, blob_text};
 ghost use Rattle.ls_unsealing.specs.Parts.{held_by};
 
-use crate::opening::{opened_blob, opened_under};
+use crate::opening::opened_blob;
 use crate::parts::HeldParts;
-use crate::text::{is_same, is_text, joined};
-use ls_blob::BlobKind;
-use ls_bytes::{Bytes, Memory, hex_upper};
+use crate::text::{is_same, is_text};
+use ls_blob::{BlobKind, opened_under};
+use ls_bytes::{Bytes, Memory, hex_upper, joined};
 use ls_hash::phash2;
 use ls_sealing::discardable_share;
 use ls_secret::Secret;

@@ -1,0 +1,14 @@
+pub mod Looking
+pub mod Links
+pub mod Credentials
+pub mod Rows
+pub mod Linked
+pub mod Tokens
+pub mod Offers
+pub mod Asking
+pub mod Trying
+pub mod Attempting
+pub mod TokenAttempts
+pub mod MetricsFile
+pub mod ResumeFiles
+pub mod HandleFile
