@@ -1,0 +1,4 @@
+mod FreshLemmas
+mod ListLemmas
+mod SiftLemmas
+mod SlotLemmas

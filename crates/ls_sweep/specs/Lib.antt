@@ -1,0 +1,3 @@
+pub mod FreshIds
+pub mod Lines
+pub mod Sifted

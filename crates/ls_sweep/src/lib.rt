@@ -1,0 +1,10 @@
+//! What a board holds that its record doesn't name, and numbers that aren't taken yet.
+#![tactic(auto)]
+
+mod fresh;
+mod lists;
+mod unnamed;
+
+pub use fresh::{fresh_protector_id, fresh_token_id, lowest_free_slot};
+pub use lists::{names_of, numbers_of};
+pub use unnamed::{unnamed_enrolled, unnamed_keys};
