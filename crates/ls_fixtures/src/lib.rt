@@ -7,5 +7,5 @@ mod opening;
 mod rooms;
 
 pub use boards::board_on;
-pub use opening::{open_settings, record_of};
+pub use opening::open_settings;
 pub use rooms::{act_with_room, run_with_room};

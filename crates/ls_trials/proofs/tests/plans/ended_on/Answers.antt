@@ -1,4 +1,0 @@
-use Rattle.ls_trials.proofs.tests.plans.ended_on.Goals as goal
-
-pub run_with_room-requires-clause-sound : goal.run_with_room-requires-clause-sound
-run_with_room-requires-clause-sound g c = c.in_ok-plan.ensures.sound (g.B.Board.sight c.args.board.now).slots
