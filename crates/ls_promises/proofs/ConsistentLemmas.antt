@@ -1,10 +1,10 @@
 -- Each command and each restart leaves a state consistent.
 use Rattle.std.proofs.Common.{◌≡◌, ◌≢◌, ◌≤◌, ◌+◌, ◌%◌, ◌^◌, ℕ, zero, suc, Bool, true, false, not, cond, eqb, List, [], ◌∷◌, ◌++◌, Option, None, Some, length, length-append, refl, sym, ◌∙◌, ap, subst, arith}
-use Rattle.std.specs.Prelude.{◌==◌, ◌&&◌, ◌||◌, nat_lt, nat_le, is_some, filter, bytes_eq}
+use Rattle.std.specs.Prelude.{◌==◌, ◌&&◌, nat_lt, filter, bytes_eq}
 use Rattle.ls_credential.specs.Rules.{KindAndText}
 use Rattle.ls_promises.proofs.EachLemmas.{Each, each_none, each_changed, each_with, each_without, found_before, other_found}
 use Rattle.ls_promises.proofs.LimitLemmas.{waiting, moving, moving_length, moving_others, waiting_filter, waiting-push, length_filter}
-use Rattle.ls_promises.proofs.Lookups.{KeepsNumber, eqb_is, not_eqb, user_of-with, user_of-with_other, user_of-without, user_of-without_other}
+use Rattle.ls_promises.proofs.Lookups.{KeepsNumber, not_eqb, user_of-with, user_of-with_other, user_of-without, user_of-without_other}
 use Rattle.ls_promises.proofs.SoundCommands.{of_accepted, passed, sound_step, sound_restart}
 use Rattle.ls_promises.proofs.SoundParts.{tokens_found, at_number}
 use Rattle.ls_promises.proofs.SoundSteps.{none_waits}
@@ -14,19 +14,19 @@ use Rattle.ls_promises.specs.Soundness.{IsSound}
 use Rattle.ls_script.specs.declared.command.Command.{Command}
 use Rattle.ls_script.specs.declared.command.Command.TheVariants as command
 use Rattle.ls_vault.specs.Arming.{unarmed, resumed, is_good}
-use Rattle.ls_vault.specs.Credentials.{is_first, secure_ids, secure_after, given}
+use Rattle.ls_vault.specs.Credentials.{secure_ids, given}
 use Rattle.ls_vault.specs.Effects.{effect, auto_set}
 use Rattle.ls_vault.specs.Fresh.{odd, first_free, fresh, drawn_number}
-use Rattle.ls_vault.specs.Histories.{Event, command as served, restarted, happening, state_after}
+use Rattle.ls_vault.specs.Histories.{Event, command as served, restarted, state_after}
 use Rattle.ls_vault.specs.Kinds.{is_empty}
-use Rattle.ls_vault.specs.Limits.{is_worn, is_full, activated_count, token_count}
+use Rattle.ls_vault.specs.Limits.{is_worn, activated_count, token_count}
 use Rattle.ls_vault.specs.Refusals.{refusal, differs, token_add_refusal}
 use Rattle.ls_vault.specs.Step.{step, restart}
 use Rattle.ls_vault.specs.TokenChanges.{with_tokens, first_activated, without_its, plain}
-use Rattle.ls_vault.specs.Tokens.{pending_of, pending_of_others, without_pending, without_first, is_active}
+use Rattle.ls_vault.specs.Tokens.{pending_of_others, without_pending, without_first, is_active}
 use Rattle.ls_vault.specs.Unlocking.{cleared, failed, attempted, token_attempted}
 use Rattle.ls_vault.specs.UserChanges.{new_user}
-use Rattle.ls_vault.specs.Users.{contains, user_of, is_user, tokens_of, changed, with_user, without_user}
+use Rattle.ls_vault.specs.Users.{contains, user_of, is_user, changed, with_user, without_user}
 use Rattle.ls_vault.specs.declared.state.Outcome.{Outcome}
 use Rattle.ls_vault.specs.declared.state.State.{State}
 use Rattle.ls_vault.specs.declared.token.PendingToken.{PendingToken}

@@ -1,5 +1,5 @@
 -- What holds of each user that is found by its number.
-use Rattle.std.proofs.Common.{◌≡◌, ◌≢◌, ℕ, List, [], Option, None, Some, refl, sym, ◌∙◌, ap, subst}
+use Rattle.std.proofs.Common.{◌≡◌, ◌≢◌, ℕ, List, [], Option, None, Some, refl, sym, ◌∙◌, subst}
 use Rattle.std.specs.Prelude.{option_map}
 use Rattle.ls_promises.proofs.Lookups.{KeepsNumber, seen_other, user_of-changed, user_of-with, user_of-with_other, user_of-without, user_of-without_other}
 use Rattle.ls_promises.proofs.SoundParts.{at_number}

@@ -68,7 +68,7 @@ module _ (s : State) where
   pub session_taken : (users : List ℕ) → (taken s users).session ≡ s.session
   session_taken users = cond_both (λ (t : State). t.session ≡ s.session) (is_worn s) _ _ refl refl
 
-  abbrev answer : Option Arming → Outcome
+  abbrev pub answer : Option Arming → Outcome
   answer o = unless (resume_refusal o) s (resumed o s)
 
   none_resumed : (o : Option Arming) → s.vault.arming ≡ o → (answer o).state.vault.arming ≡ None
@@ -88,12 +88,12 @@ module _ (s : State) where
       (λ is. absurd (cc)) (λ is. session_taken a.users) is
 
   -- an arming that is or isn't good
-  abbrev opening : Arming → Bool → Outcome
+  abbrev pub opening : Arming → Bool → Outcome
   opening a good =
       cond good (record { reply = Resumed (all_revealed s.vault.users a.users); state = all_opened (taken s a.users) a.users })
       (refused (taken s a.users) (Expired a.boot s.session.boot))
 
-  at_arming : (a : Arming) → s.vault.arming ≡ Some a → (b : Bool) → is_good a.boot s.session.boot ≡ b → answer s.vault.arming ≡ opening a b
+  pub at_arming : (a : Arming) → s.vault.arming ≡ Some a → (b : Bool) → is_good a.boot s.session.boot ≡ b → answer s.vault.arming ≡ opening a b
   at_arming a there b is = ap answer there ∙ ap (opening a) is
 
   books_opening : (a : Arming) (b : Bool) → (opening a b).state.books ≡ (taken s a.users).books

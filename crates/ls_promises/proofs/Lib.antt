@@ -13,6 +13,7 @@ pub mod LineLemmas
 pub mod LockLemmas
 pub mod Lookups
 pub mod OpeningLemmas
+pub mod OpenedLemmas
 pub mod OrderLemmas
 pub mod PartingLemmas
 pub mod PendingSteps

@@ -20,7 +20,7 @@ use Rattle.ls_script.specs.declared.command.Command.{Command}
 use Rattle.ls_script.specs.declared.reply.Reply.{Reply}
 use Rattle.ls_script.specs.declared.script_line.ScriptLine.{ScriptLine}
 use Rattle.ls_script.specs.declared.script_line.ScriptLine.TheVariants as lines
-use Rattle.ls_vault.specs.Script.{Stage, Carried, put_first, entry_of, stage_after, carried, commands_of, served_as, served_text}
+use Rattle.ls_vault.specs.Script.{Stage, Carried, put_first, entry_of, stage_after, carried, commands_of, served_as}
 
 -- ---- lines
 

@@ -1,5 +1,5 @@
 -- A user is locked.
-use Rattle.std.proofs.Common.{◌≡◌, ◌≢◌, ℕ, Bool, true, false, List, Option, None, Some, refl, arith}
+use Rattle.std.proofs.Common.{◌≡◌, ◌≢◌, ℕ, Bool, true, false, List, Option, None, Some, refl}
 use Rattle.std.specs.Prelude.{is_some}
 use Rattle.ls_promises.proofs.FreshLemmas.{other_contained}
 use Rattle.ls_promises.proofs.LimitLemmas.{without_contains}

@@ -1,7 +1,7 @@
 -- How many users a reply tells of.
-use Rattle.std.proofs.Common.{◌≡◌, ◌≢◌, ◌≤◌, ◌<◌, ℕ, zero, suc, Bool, true, false, not, cond, eqb, eq-eqb, List, [], ◌∷◌, Option, None, Some, length, map, refl, sym, ◌∙◌, ap, subst, arith}
+use Rattle.std.proofs.Common.{◌≡◌, ◌≤◌, ◌<◌, ℕ, Bool, true, false, cond, eqb, eq-eqb, List, [], ◌∷◌, Option, None, Some, length, refl, ◌∙◌, subst, arith}
 use Rattle.std.proofs.lemmas.List.{length-map}
-use Rattle.std.specs.Prelude.{◌==◌, ◌&&◌, ◌||◌, nat_lt, nat_le, ◌-◌, filter_map, option_map, is_some, bytes_eq}
+use Rattle.std.specs.Prelude.{◌||◌, option_map, is_some, bytes_eq}
 use Rattle.std.specs.List.{AllByRecursion, cons_option}
 use Rattle.ls_promises.proofs.FreshLemmas.{other_contained, one_less}
 use Rattle.ls_promises.proofs.LimitLemmas.{numbers, or_true_left, or_true_right}
@@ -15,7 +15,6 @@ use Rattle.ls_script.specs.declared.reply.Refusal.{Refusal}
 use Rattle.ls_script.specs.declared.reply.Refusal.TheVariants.{NoUser}
 use Rattle.ls_script.specs.declared.reply.Reply.{Reply}
 use Rattle.ls_script.specs.declared.reply.Reply.TheVariants.{No}
-use Rattle.ls_script.specs.declared.reply.Revealed.{Revealed}
 use Rattle.ls_vault.specs.Arming.{resumed, is_good}
 use Rattle.ls_vault.specs.Effects.{effect}
 use Rattle.ls_vault.specs.Refusals.{refusal}

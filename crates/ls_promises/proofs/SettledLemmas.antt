@@ -1,6 +1,6 @@
 -- Each command leaves users armed or dead, not both.
 use Rattle.std.proofs.Common.{◌≡◌, ◌⊎◌, inl, inr, ℕ, Bool, true, false, not, cond, eq-eqb, List, [], ◌∷◌, Option, None, Some, length, refl, sym, ◌∙◌, ap, subst, arith}
-use Rattle.std.specs.Prelude.{◌==◌, ◌&&◌, ◌||◌, nat_lt, nat_le, min, filter, bytes_eq, ◌-◌}
+use Rattle.std.specs.Prelude.{◌==◌, ◌||◌, nat_lt, nat_le, min, filter, bytes_eq, ◌-◌}
 use Rattle.std.specs.List.{AllByRecursion}
 use Rattle.ls_promises.proofs.EndingLemmas.{none_taken, session_taken}
 use Rattle.ls_promises.proofs.Lookups.{eqb_is}
@@ -9,11 +9,10 @@ use Rattle.ls_promises.proofs.Steps.{cond_both, at_unless, at_user, at_committed
 use Rattle.ls_promises.specs.Consistency.{IsSettled, FindsBooks}
 use Rattle.ls_script.specs.declared.command.Command.{Command}
 use Rattle.ls_script.specs.declared.command.Command.TheVariants as command
-use Rattle.ls_script.specs.declared.reply.Refusal.{Refusal}
 use Rattle.ls_script.specs.declared.reply.Refusal.TheVariants.{Worn}
 use Rattle.ls_vault.specs.Arming.{unarmed, prepared, armed, resumed, is_good, taken, all_opened}
 use Rattle.ls_vault.specs.Effects.{effect, auto_set}
-use Rattle.ls_vault.specs.Histories.{Event, command as served, restarted, happening, history, state_after}
+use Rattle.ls_vault.specs.Histories.{Event, command as served, restarted, history, state_after}
 use Rattle.ls_vault.specs.Limits.{last_of_64, is_worn, is_full, used, activated_count}
 use Rattle.ls_vault.specs.Refusals.{refusal, of_user, is_opened, differs, worn_refusal, change_refusal, token_drop_refusal, escrow_off_refusal, auto_pin_refusal}
 use Rattle.ls_vault.specs.States.{with_arming, with_dead, with_session, committed, committed_if}

@@ -1,5 +1,5 @@
 -- What fits together in every state.
-use Rattle.std.specs.Prelude.{◌≡◌, ◌⊎◌, ◌==◌, ℕ, Bool, true, false, List, [], Option, Some, None, is_some, ⊤}
+use Rattle.std.specs.Prelude.{◌≡◌, ◌⊎◌, ◌==◌, ℕ, Bool, true, false, [], Some, None, is_some, ⊤}
 use Rattle.ls_credential.specs.Rules.{fault_of}
 use Rattle.ls_script.specs.declared.command.Command.{Command}
 use Rattle.ls_script.specs.declared.command.Command.TheVariants as command

@@ -41,5 +41,5 @@ pub use scripts::{scripts_are_histories, scripts_are_parted};
 pub use secrets::secrets_stay;
 pub use throttle::wrong_texts_stay_counted;
 pub use tokens::{activations_keep_tokens, removed_tokens_stay_removed};
-pub use unlocks::{only_unlocks_open, unlocks_are_exact};
+pub use unlocks::{only_unlocks_open, unlocks_are_exact, unlocks_open};
 pub use wrong_texts::wrong_texts_are_answered;
