@@ -1,11 +1,13 @@
 -- One more of a list is left where it isn't named.
-use Rattle.std.proofs.Common.{◌≡◌, ◌⊎◌, inl, inr, not, ℕ, zero, suc, ◌+◌, ◌≤◌, ◌<◌, length, take, get_or, Bool, true, false, List, [], ◌∷◌, ◌++◌, refl, sym, ap, subst, arith}
+use Rattle.std.proofs.Common.{◌≡◌, ◌⊎◌, inl, inr, not, ℕ, zero, suc, ◌+◌, ◌≤◌, ◌<◌, length, take, get_or, Bool, true, false, List, [], ◌∷◌, ◌++◌, refl, sym, ◌∙◌, ap, subst, arith, ◌||◌, eqb}
 use Rattle.std.specs.Prelude.{MatchBool}
 use Rattle.std.specs.List.{Contains}
+use Rattle.std.proofs.lemmas.Bool.{eqb-true, eq-eqb, cases_order}
 use Rattle.std.proofs.lemmas.List.{append-nil, take_more}
 use Rattle.std.proofs.lemmas.List.Elements.{Contains-append_left, Contains-append_right, Contains-append_cases}
 use Rattle.ls_naming.specs.Named.{only_if}
-use Rattle.ls_sweep.specs.Sifted.{AreThose}
+use Rattle.ls_vault.specs.Users.{contains}
+use Rattle.ls_sweep.specs.Sifted.{AreThose, AreUnusedBelow}
 
 module _ {X : Type 0} where
   none_in : (x : X) → ¬ Contains [] x
@@ -60,3 +62,71 @@ whole (x ∷ xs) (suc i) le = ap (λ (l : List ℕ). x ∷ l) (whole xs i (omega
 
 pub unnamed_whole : (Q : ℕ → Type 0) (xs left : List ℕ) (i : ℕ) → AreThose (λ y. ¬ Q y) (take i xs) left → length xs ≤ i → AreThose (λ y. ¬ Q y) xs left
 unnamed_whole Q xs left i those past = subst (λ (l : List ℕ). AreThose (λ y. ¬ Q y) l left) (whole xs i past) those
+
+-- ---- slots
+
+in_rest : (y : ℕ) (ys : List ℕ) (x : ℕ) → Contains ys x → Contains (y ∷ ys) x
+in_rest y ys x (k, within, is) = (suc k, omega arith, is)
+
+in_first : (x : ℕ) (ys : List ℕ) → Contains (x ∷ ys) x
+in_first x ys = (0, omega arith, refl)
+
+in_either : (y : ℕ) (ys : List ℕ) (x : ℕ) → Contains (y ∷ ys) x → (y ≡ x) ⊎ Contains ys x
+in_either y ys x (zero, within, is) = inl is
+in_either y ys x (suc k, within, is) = inr (k, omega arith, is)
+
+-- the test says whether it is one of them
+is_in : (ys : List ℕ) (x : ℕ) → contains ys x ≡ true → Contains ys x
+is_in [] x is = absurd (cc)
+is_in (y ∷ ys) x is = by (eqb y x) refl is (is_in ys x)
+  where
+    by : (b : Bool) → eqb y x ≡ b → (b || contains ys x) ≡ true → (contains ys x ≡ true → Contains ys x) → Contains (y ∷ ys) x
+    by true e is rest = subst (λ (z : ℕ). Contains (z ∷ ys) x) (sym (eqb-true y x e)) (in_first x ys)
+    by false e is rest = in_rest y ys x (rest is)
+
+not_in : (ys : List ℕ) (x : ℕ) → contains ys x ≡ false → ¬ Contains ys x
+not_in [] x is has = none_in x has
+not_in (y ∷ ys) x is has = by (eqb y x) refl is (not_in ys x) (in_either y ys x has)
+  where
+    by : (b : Bool) → eqb y x ≡ b → (b || contains ys x) ≡ false → (contains ys x ≡ false → ¬ Contains ys x) → (y ≡ x) ⊎ Contains ys x → ⊥
+    by true e is rest either = absurd (cc)
+    by false e is rest (inl same) = let bad : true ≡ false = sym (eq-eqb y x same) ∙ e in absurd (cc)
+    by false e is rest (inr k) = rest is k
+
+in_test : (used : List ℕ) (x : ℕ) (b : Bool) → b ≡ contains used x → MatchBool b (Contains used x) (¬ Contains used x)
+in_test used x true is = is_in used x (sym is)
+in_test used x false is = not_in used x (sym is)
+
+below_or_last : (y i : ℕ) → y < i + 1 → (y < i) ⊎ (i ≡ y)
+below_or_last y i below = at (cases_order y i)
+  where
+    at : (y ≡ i) ⊎ ((y < i) ⊎ (i < y)) → (y < i) ⊎ (i ≡ y)
+    at (inl same) = inr (sym same)
+    at (inr (inl low)) = inl low
+    at (inr (inr high)) = absurd (omega (arith, below, high))
+
+pub none_unused : (used : List ℕ) → AreUnusedBelow 0 used []
+none_unused used x = (λ has. absurd (none_in x has), λ both. absurd (let low = both.0 in omega (arith, low)))
+
+pub unused_next : (used left new : List ℕ) (i : ℕ) (b : Bool) → AreUnusedBelow i used left → b ≡ contains used i → new ≡ left ++ only_if (not b) (i ∷ [])
+    → AreUnusedBelow (i + 1) used new
+unused_next used left new i b those test is = subst (AreUnusedBelow (i + 1) used) (sym is) (by b (in_test used i b test))
+  where
+    by : (b : Bool) → MatchBool b (Contains used i) (¬ Contains used i) → AreUnusedBelow (i + 1) used (left ++ only_if (not b) (i ∷ []))
+    by true has y = (
+      λ k. let both = (those y).0 (subst (λ (l : List ℕ). Contains l y) (append-nil left) k) in (let low = both.0 in omega (arith, low), both.1),
+      λ both. subst (λ (l : List ℕ). Contains l y) (sym (append-nil left)) (here both.1 (below_or_last y i both.0)),
+    )
+      where
+        here : ¬ Contains used y → (y < i) ⊎ (i ≡ y) → Contains left y
+        here free (inl low) = (those y).1 (low, free)
+        here free (inr same) = absurd (free (subst (Contains used) same has))
+    by false free y = (λ k. into (Contains-append_cases left (i ∷ []) y k), λ both. out both.1 (below_or_last y i both.0))
+      where
+        into : Contains left y ⊎ Contains (i ∷ []) y → (y < i + 1) × (¬ Contains used y)
+        into (inl k) = let both = (those y).0 k in (let low = both.0 in omega (arith, low), both.1)
+        into (inr k) = let same = the_one i y k in (omega (arith, same), subst (λ (z : ℕ). ¬ Contains used z) same free)
+
+        out : ¬ Contains used y → (y < i) ⊎ (i ≡ y) → Contains (left ++ i ∷ []) y
+        out apart (inl low) = Contains-append_left left (i ∷ []) y ((those y).1 (low, apart))
+        out apart (inr same) = Contains-append_right left (i ∷ []) y (subst (Contains (i ∷ [])) same (one_in i))

@@ -3,8 +3,10 @@
 
 mod fresh;
 mod lists;
+mod slots;
 mod unnamed;
 
 pub use fresh::{fresh_protector_id, fresh_token_id, lowest_free_slot};
 pub use lists::{names_of, numbers_of};
+pub use slots::unused_slots;
 pub use unnamed::{unnamed_enrolled, unnamed_keys};
