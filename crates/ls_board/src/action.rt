@@ -191,7 +191,25 @@ impl Drop for Action {
 }
 
 impl Action {
+    ghost use Rattle.ls_board.specs.Planned.{file_of};
     ghost use Rattle.ls_board.specs.Effect.{part_of, weight_of};
+
+    /// The name of the file that it changes, taken out of it, if it changes one.
+    pub fn into_file(self) -> Option<Name>
+        ensures file { result ≡ file_of self }
+    {
+        match self {
+            Action::Make { name, len: _ } => Some(name),
+            Action::Put { name, bytes: _ } => Some(name),
+            Action::Poke {
+                name,
+                at: _,
+                bytes: _,
+            } => Some(name),
+            Action::Remove { name } => Some(name),
+            _ => None,
+        }
+    }
 
     /// The part that does it.
     pub fn part(&self) -> Part

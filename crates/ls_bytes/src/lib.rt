@@ -15,4 +15,4 @@ pub use memory::Memory;
 pub use name::{Name, NameFault};
 pub use put::{joined, put_be32, put_be64, put_bytes, put_u8};
 pub use reader::{Reader, Short};
-pub use rows::{IdList, NameList, Rows, SlotList, UserList};
+pub use rows::{IdList, NameList, Rows, RowsBehind, SlotList, UserList};

@@ -1,5 +1,5 @@
 //! Lists of rows, each of which fewer than 2^32 are.
-ghost use Rattle.std.specs.Prelude.{◌≡◌, ◌<◌, ◌++◌, ◌∷◌, ◌↔◌, [], length, OnOk, OnErr, IsSome, slice_get};
+ghost use Rattle.std.specs.Prelude.{◌≡◌, ◌<◌, ◌++◌, ◌∷◌, ◌↔◌, [], length, OnOk, OnErr, IsSome, MatchResult, slice_get};
 ghost use Rattle.std.specs.Option.{option_copied};
 
 use crate::memory::Memory;
@@ -22,6 +22,23 @@ impl<T> Model for Rows<T> {
     ghost view = { λ r. r.items.items };
 
     ghost invariant = { λ r. length r.items.items < 2 ^ 32 };
+}
+
+/// The rows behind the first, which was taken off. There is a place to put it back.
+#[derive(Drop)]
+pub struct RowsBehind<T> {
+    items: Vec<T>,
+}
+
+impl<T> Model for RowsBehind<T> {
+    ghost use Rattle.std.specs.Prelude.{◌<◌, ◌+◌, ◌^◌, List, length, vec_len, vec_capacity};
+
+    ghost Value = { List T };
+
+    ghost view = { λ r. r.items.items };
+
+    ghost invariant = { λ r. (length r.items.items + 1 < 2 ^ 32)
+        × (vec_len r.items < vec_capacity r.items) };
 }
 
 /// A list of names.
@@ -85,5 +102,42 @@ impl<T> Rows<T> {
         }
         self.items.push(row).map_err(AllocError::from)?;
         Ok(())
+    }
+
+    /// Takes the first row off. An empty list comes back as it is.
+    pub fn take_first(self) -> Result<(T, RowsBehind<T>), Rows<T>>
+        ensures taken { MatchResult result (λ some. self ≡ some.0 ∷ some.1)
+            (λ none. (self ≡ []) × (none ≡ [])) }
+    {
+        let Rows { mut items } = self;
+        if items.is_empty() {
+            return Err(Rows { items });
+        }
+        let first = items.remove(0);
+        Ok((first, RowsBehind { items }))
+    }
+}
+
+impl<T> RowsBehind<T> {
+    /// The list without the row that was taken off.
+    pub fn without_first(self) -> Rows<T>
+        ensures same { result ≡ self }
+    {
+        let RowsBehind { items } = self;
+        Rows { items }
+    }
+
+    /// The list with a row at its front, in the place of the one that was taken off. It takes no
+    /// memory.
+    pub fn put_back(self, row: T) -> Rows<T>
+    where
+        T: Drop,
+        ensures first { result ≡ row ∷ self }
+    {
+        let RowsBehind { mut items } = self;
+        match items.insert(0, row) {
+            Ok(()) => Rows { items },
+            Err(_) => unreachable!(),
+        }
     }
 }
