@@ -2,9 +2,34 @@
 use Rattle.std.specs.Prelude.{ℕ, ◌+◌, ◌≤◌, ◌&&◌, ◌||◌, not, nat_le, Bool, List, length, count_by}
 use Rattle.ls_credential.specs.declared.measure.ByteClass.{ByteClass}
 use Rattle.ls_credential.specs.declared.measure.ByteClass.TheVariants.{Upper, Lower, Digit, Symbol}
-use Rattle.ls_credential.specs.declared.metrics.Metrics.{Metrics}
+use Rattle.ls_credential.specs.declared.kind.Kind.{Kind}
 use Rattle.ls_credential.specs.Rules.{KindAndText}
 use Rattle.ls_credential.specs.Stretches.{run_of}
+
+-- what is seen of metrics: the kind, and nine numbers of bytes
+pub record KindAndCounts : Type 0 where
+  pub kind : Kind
+  pub length : ℕ
+  pub letters : ℕ
+  pub upper : ℕ
+  pub lower : ℕ
+  pub numeric : ℕ
+  pub symbols : ℕ
+  pub non_letter : ℕ
+  pub non_numeric : ℕ
+  pub run : ℕ
+
+-- no number is above 16
+pub record IsSmall (m : KindAndCounts) : Type 0 where
+  pub length : m.length ≤ 16
+  pub letters : m.letters ≤ 16
+  pub upper : m.upper ≤ 16
+  pub lower : m.lower ≤ 16
+  pub numeric : m.numeric ≤ 16
+  pub symbols : m.symbols ≤ 16
+  pub non_letter : m.non_letter ≤ 16
+  pub non_numeric : m.non_numeric ≤ 16
+  pub run : m.run ≤ 16
 
 -- `A` to `Z`
 abbrev pub is_upper : ℕ → Bool
@@ -30,7 +55,7 @@ abbrev pub count_of : ByteClass → List ℕ → ℕ
 count_of class text = count_by (is_of class) text
 
 -- the counts of a credential
-abbrev pub metrics_of : KindAndText → Metrics
+abbrev pub metrics_of : KindAndText → KindAndCounts
 metrics_of c = record {
   kind = c.kind;
   length = length c.text;
@@ -43,15 +68,3 @@ metrics_of c = record {
   non_numeric = (count_of Upper c.text + count_of Lower c.text) + count_of Symbol c.text;
   run = run_of c.text;
 }
-
--- no number is above 16
-pub record IsSmall (m : Metrics) : Type 0 where
-  pub length : m.length ≤ 16
-  pub letters : m.letters ≤ 16
-  pub upper : m.upper ≤ 16
-  pub lower : m.lower ≤ 16
-  pub numeric : m.numeric ≤ 16
-  pub symbols : m.symbols ≤ 16
-  pub non_letter : m.non_letter ≤ 16
-  pub non_numeric : m.non_numeric ≤ 16
-  pub run : m.run ≤ 16

@@ -2,3 +2,4 @@ pub mod Codes
 pub mod Rules
 pub mod Stretches
 pub mod Counts
+pub mod SeenMetrics

@@ -16,12 +16,11 @@ enum ByteClass {
 }
 
 impl Credential {
-    ghost use Rattle.ls_credential.specs.Counts.{metrics_of, IsSmall};
+    ghost use Rattle.ls_credential.specs.Counts.{metrics_of};
 
     /// What the text is made of.
     pub fn metrics(&self) -> Metrics
         ensures same { result ≡ metrics_of self.now }
-        ensures small { IsSmall result }
     {
         let text = self.text.as_slice();
         let upper = count(ByteClass::Upper, text);

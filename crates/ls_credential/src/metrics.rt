@@ -1,6 +1,7 @@
 //! What is counted of a credential's text.
 
 use crate::kind::Kind;
+use std::marker::Model;
 
 /// What a credential's text is made of, in bytes. Each number is at most 16.
 #[derive(Clone, Copy, Debug, PartialEq, Eq)]
@@ -24,4 +25,18 @@ pub struct Metrics {
     /// The longest stretch in which each byte is one less than the one before it, or each the
     /// same, or each one more.
     pub run: u8,
+}
+
+impl Model for Metrics {
+    ghost use Rattle.ls_credential.specs.Counts.{KindAndCounts, IsSmall};
+
+    ghost Value = { KindAndCounts };
+
+    ghost use Rattle.ls_credential.specs.SeenMetrics.{seen, fields_of};
+
+    ghost view = { seen };
+
+    ghost invariant = { λ m. IsSmall (seen m) };
+
+    ghost inverse = { fields_of };
 }

@@ -154,15 +154,17 @@ metrics_reads (k ∷ a ∷ b ∷ c ∷ d ∷ e ∷ f ∷ g ∷ h ∷ j ∷ rest)
       record { kind = kind.kind; length = a; letters = b; upper = c; lower = d; numeric = e; symbols = f; non_letter = g; non_numeric = h; run = j },
       record {
         kind = kind.some;
-        length = count_is a is.1.0;
-        letters = count_is b is.1.1.0;
-        upper = count_is c is.1.1.1.0;
-        lower = count_is d is.1.1.1.1.0;
-        numeric = count_is e is.1.1.1.1.1.0;
-        symbols = count_is f is.1.1.1.1.1.1.0;
-        non_letter = count_is g is.1.1.1.1.1.1.1.0;
-        non_numeric = count_is h is.1.1.1.1.1.1.1.1.0;
-        run = count_is j is.1.1.1.1.1.1.1.1.1.0;
+        small = record {
+          length = count_is a is.1.0;
+          letters = count_is b is.1.1.0;
+          upper = count_is c is.1.1.1.0;
+          lower = count_is d is.1.1.1.1.0;
+          numeric = count_is e is.1.1.1.1.1.0;
+          symbols = count_is f is.1.1.1.1.1.1.0;
+          non_letter = count_is g is.1.1.1.1.1.1.1.0;
+          non_numeric = count_is h is.1.1.1.1.1.1.1.1.0;
+          run = count_is j is.1.1.1.1.1.1.1.1.1.0;
+        };
       },
       (λ i. kind.is i ∷ a ∷ b ∷ c ∷ d ∷ e ∷ f ∷ g ∷ h ∷ j ∷ sym (ended_none rest is.1.1.1.1.1.1.1.1.1.1) i),
     )
@@ -184,20 +186,20 @@ metrics_are = record {
   writes = λ m keeps. (
     kind_passes m.kind keeps.kind,
     (
-      is_count m.length keeps.length,
+      is_count m.length keeps.small.length,
       (
-        is_count m.letters keeps.letters,
+        is_count m.letters keeps.small.letters,
         (
-          is_count m.upper keeps.upper,
+          is_count m.upper keeps.small.upper,
           (
-            is_count m.lower keeps.lower,
+            is_count m.lower keeps.small.lower,
             (
-              is_count m.numeric keeps.numeric,
+              is_count m.numeric keeps.small.numeric,
               (
-                is_count m.symbols keeps.symbols,
+                is_count m.symbols keeps.small.symbols,
                 (
-                  is_count m.non_letter keeps.non_letter,
-                  (is_count m.non_numeric keeps.non_numeric, (is_count m.run keeps.run, tt)),
+                  is_count m.non_letter keeps.small.non_letter,
+                  (is_count m.non_numeric keeps.small.non_numeric, (is_count m.run keeps.small.run, tt)),
                 ),
               ),
             ),
@@ -208,6 +210,12 @@ metrics_are = record {
   );
   again = λ m keeps. ap (λ (k : Kind). record m { kind = k }) (kind_again m.kind);
 }
+
+-- what is read in each place
+pub metrics_read : (bytes : List ℕ) → IsIn metrics_format bytes → (k : Kind) → k ≡ unwrap_or (kind_of (get_or bytes 0 0)) Empty → AreMetrics (record (metrics_of bytes) { kind = k })
+metrics_read bytes is k same =
+    (spelled_value metrics_format AreMetrics metrics_bytes metrics_of metrics_are bytes is
+    _ (ap (λ (k : Kind). record (metrics_of bytes) { kind = k }) same)).0
 
 -- ---- kind, cost, salt and handle
 

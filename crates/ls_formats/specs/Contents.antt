@@ -3,8 +3,8 @@ use Rattle.std.specs.Prelude.{◌≡◌, ◌≢◌, ◌≤◌, ◌<◌, ◌^◌,
 use Rattle.ls_bytes.specs.Fields.{be32}
 use Rattle.ls_credential.specs.declared.kind.Kind.{Kind}
 use Rattle.ls_credential.specs.declared.kind.Kind.TheVariants.{Empty}
-use Rattle.ls_credential.specs.declared.metrics.Metrics.{Metrics}
 use Rattle.ls_credential.specs.Codes.{code_of, kind_of}
+use Rattle.ls_credential.specs.Counts.{KindAndCounts, IsSmall}
 use Rattle.ls_formats.specs.declared.slot.SlotFile.{SlotFile}
 use Rattle.ls_formats.specs.declared.handle.HandleFile.{HandleFile}
 
@@ -62,19 +62,12 @@ pwd_bytes p = code_of p.kind ∷ p.log_n ∷ p.log_r ∷ p.log_p ∷ (p.salt ++ 
 
 -- ---- what is counted of a credential
 
-pub record AreMetrics (m : Metrics) : Type 0 where
+-- of a credential that isn't none
+pub record AreMetrics (m : KindAndCounts) : Type 0 where
   pub kind : m.kind ≢ Empty
-  pub length : m.length ≤ 16
-  pub letters : m.letters ≤ 16
-  pub upper : m.upper ≤ 16
-  pub lower : m.lower ≤ 16
-  pub numeric : m.numeric ≤ 16
-  pub symbols : m.symbols ≤ 16
-  pub non_letter : m.non_letter ≤ 16
-  pub non_numeric : m.non_numeric ≤ 16
-  pub run : m.run ≤ 16
+  pub small : IsSmall m
 
-abbrev pub metrics_bytes : Metrics → List ℕ
+abbrev pub metrics_bytes : KindAndCounts → List ℕ
 metrics_bytes m =
     code_of m.kind ∷ m.length ∷ m.letters ∷ m.upper ∷ m.lower ∷ m.numeric ∷ m.symbols ∷ m.non_letter ∷ m.non_numeric ∷ m.run ∷ []
 
@@ -90,7 +83,7 @@ pwd_of bytes = record {
   handle = if slice_index bytes 20 == 0 then None else Some (take 49 (drop 21 bytes));
 }
 
-abbrev pub metrics_of : List ℕ → Metrics
+abbrev pub metrics_of : List ℕ → KindAndCounts
 metrics_of bytes = record {
   kind = unwrap_or (kind_of (slice_index bytes 0)) Empty;
   length = slice_index bytes 1;

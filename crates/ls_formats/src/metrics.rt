@@ -62,14 +62,15 @@ pub struct MetricsFile {
 }
 
 impl Model for MetricsFile {
-    ghost use Rattle.ls_credential.specs.declared.metrics.Metrics.{Metrics};
-    ghost use Rattle.ls_formats.specs.Contents.{AreMetrics};
+    ghost use Rattle.std.specs.Prelude.{◌≢◌};
+    ghost use Rattle.ls_credential.specs.Counts.{KindAndCounts};
+    ghost use Rattle.ls_credential.specs.declared.kind.Kind.TheVariants.{Empty};
 
-    ghost Value = { Metrics };
+    ghost Value = { KindAndCounts };
 
     ghost view = { λ f. f.metrics };
 
-    ghost invariant = { λ f. AreMetrics f.metrics };
+    ghost invariant = { λ f. f.metrics.kind ≢ Empty };
 }
 
 impl MetricsFile {

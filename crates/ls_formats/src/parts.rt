@@ -2,15 +2,18 @@
 
 use ls_bytes::NameList;
 
-/// What a protector consists of. Its key's alias is its id.
+/// What a protector consists of: its files, its slot, its key, whose alias is its id, and where it
+/// is enrolled the Gatekeeper's record of its id.
 #[derive(Drop)]
 pub struct Parts {
+    /// The number of the user whose it is.
     pub user: u32,
+    /// Its id, which isn't 0.
     pub id: u64,
-    /// Its Weaver slot, where there is Weaver.
+    /// The Weaver slot that it has, on a board with slots.
     pub slot: Option<u32>,
-    /// Whether it has a Gatekeeper record, which then is that of its id.
+    /// Whether the Gatekeeper has a record of its id.
     pub gk: bool,
-    /// Its files.
+    /// The names of its files that are there.
     pub names: NameList,
 }

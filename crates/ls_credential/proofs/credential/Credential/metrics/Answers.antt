@@ -3,8 +3,8 @@ use Rattle.ls_credential.proofs.ClassLemmas.{counts_of_all}
 use Rattle.ls_credential.proofs.RuleLemmas.{at_most_16}
 use Rattle.ls_credential.proofs.credential.Credential.metrics.Goals as goal
 
-pub returns-clause-small : goal.returns-clause-small
-returns-clause-small c =
+pub invariant_of-result : goal.invariant_of-result
+invariant_of-result c =
     let all = counts_of_all c.as_slice-text.result.now in
     let u = c.count-upper.ensures.same in
     let l = c.count-lower.ensures.same in

@@ -1,11 +1,8 @@
-use Rattle.std.proofs.Common.{ap}
-use Rattle.ls_credential.specs.declared.kind.Kind.{Kind}
-use Rattle.ls_formats.specs.Files.{metrics_format}
-use Rattle.ls_formats.specs.Contents.{AreMetrics, metrics_bytes, metrics_of}
-use Rattle.ls_formats.proofs.ContentLemmas.{spelled_value, metrics_are}
+use Rattle.ls_formats.proofs.ContentLemmas.{metrics_read}
 use Rattle.ls_formats.proofs.metrics.MetricsFile.read.Goals as goal
 
 pub invariant_of-result : goal.invariant_of-result
-invariant_of-result c =
-    (spelled_value metrics_format AreMetrics metrics_bytes metrics_of metrics_are c.args.bytes.now c.requires.format
-    _ (ap (λ (k : Kind). record (metrics_of c.args.bytes.now) { kind = k }) c.stored_kind.ensures.same)).0
+invariant_of-result c = (metrics_read c.args.bytes.now c.requires.format c.stored_kind.result c.stored_kind.ensures.same).small
+
+pub invariant_of-result-2 : goal.invariant_of-result-2
+invariant_of-result-2 c = (metrics_read c.args.bytes.now c.requires.format c.stored_kind.result c.stored_kind.ensures.same).kind
