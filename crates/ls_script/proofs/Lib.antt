@@ -1,4 +1,5 @@
 mod BeginningLemmas
 mod PutLemmas
 mod ReadingLemmas
+pub mod ReplyLineLemmas
 pub mod ScriptGrammar

@@ -7,7 +7,7 @@ use Rattle.ls_credential.specs.declared.fault.CredentialFault.{CredentialFault}
 use Rattle.ls_credential.specs.declared.fault.CredentialFault.TheVariants as rule
 use Rattle.ls_credential.specs.declared.kind.Kind.{Kind}
 use Rattle.ls_credential.specs.declared.kind.Kind.TheVariants.{Empty, Pattern, Pin, Password}
-use Rattle.ls_credential.specs.declared.metrics.Metrics.{Metrics}
+use Rattle.ls_credential.specs.Counts.{KindAndCounts}
 use Rattle.ls_secret.specs.declared.subkey.Subkey.{Subkey}
 use Rattle.ls_secret.specs.Subkeys.{subkey_bytes}
 use Rattle.ls_grammar.specs.declared.fault.LineFault.{LineFault}
@@ -31,13 +31,13 @@ kind_text Pin = codes "pin"
 kind_text Password = codes "password"
 
 -- the nine counts in order
-abbrev pub counts_of : Metrics → List ℕ
+abbrev pub counts_of : KindAndCounts → List ℕ
 counts_of m =
     m.length ∷ m.letters ∷ m.upper ∷ m.lower ∷ m.numeric ∷ m.symbols ∷ m.non_letter
     ∷ m.non_numeric ∷ m.run ∷ []
 
 -- the kind, a colon and the counts, joined by dots; a dash for none
-abbrev pub metrics_text : Option Metrics → List ℕ
+abbrev pub metrics_text : Option KindAndCounts → List ℕ
 metrics_text None = codes "-"
 metrics_text (Some m) =
     kind_text m.kind ++ codes ":" ++ join_with_byte 0x2e (map decimal (counts_of m))

@@ -1,6 +1,7 @@
 //! What a reply says of a user, and why a command is refused.
 ghost use Rattle.std.specs.Prelude.{◌≡◌, ◌≤◌, ◌*◌, length, OnOk};
 ghost use Rattle.std.specs.List.{flat_map};
+ghost use Rattle.ls_script.specs.ReplyLines.{NamesFile};
 ghost use Rattle.ls_script.specs.ReplyText.{opened_words, status_words, opened_text, escrow_text};
 ghost use Rattle.ls_script.specs.ReplyText.{refusal_words, refusal_name, refusal_details, Puts};
 
@@ -62,7 +63,8 @@ fn escrow_name(escrow: bool) -> &'static [u8]
 
 /// Why a command is refused.
 pub(crate) fn put_refusal(to: &mut Bytes, refusal: &Refusal) -> Result<(), Memory>
-    ensures { OnOk result (Puts (refusal_words refusal.now) 89 to.old to.new) }
+    ensures words { OnOk result (Puts (refusal_words refusal.now) 89 to.old to.new) }
+    ensures names { OnOk result (NamesFile refusal.now) }
 {
     put_word(to, name_of(refusal))?;
     put_details(to, refusal)?;
@@ -96,7 +98,8 @@ fn name_of(refusal: &Refusal) -> &'static [u8]
 
 /// What a refusal says besides its name.
 fn put_details(to: &mut Bytes, refusal: &Refusal) -> Result<(), Memory>
-    ensures { OnOk result (Puts (refusal_details refusal.now) 76 to.old to.new) }
+    ensures words { OnOk result (Puts (refusal_details refusal.now) 76 to.old to.new) }
+    ensures names { OnOk result (NamesFile refusal.now) }
 {
     match refusal {
         Refusal::WrongKind(stored) => {

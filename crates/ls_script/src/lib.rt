@@ -13,7 +13,7 @@ mod verb;
 mod words;
 
 pub use command::{Command, CommandList};
-pub use laws::lines_are_read_by_their_beginning;
+pub use laws::{lines_are_read_by_their_beginning, replies_are_lines};
 pub use ls_grammar::LineFault;
 pub use print::{print_fault, print_reply};
 pub use read::line;

@@ -2,6 +2,7 @@
 ghost use Rattle.std.specs.Prelude.{◌≡◌, ◌≤◌, ◌+◌, ◌*◌, ◌∷◌, [], length, map, IfOk, OnOk, Some};
 ghost use Rattle.std.specs.Prelude.{codes};
 ghost use Rattle.ls_grammar.specs.Words.{fixed, number};
+ghost use Rattle.ls_script.specs.ReplyLines.{IsOneLine, NamesFiles};
 ghost use Rattle.ls_script.specs.ReplyText.{reply_text, reply_line, fault_text, fault_words};
 ghost use Rattle.ls_script.specs.ReplyText.{pin_word, token_text, user_count, Puts, PutsSome};
 
@@ -14,8 +15,10 @@ use ls_grammar::LineFault;
 use std::alloc::Global;
 
 /// The text of a reply, which ends with a newline. Room for it is taken once.
+#[tactic(auto, using(crate::proofs::ReplyLineLemmas::reply_one_line))]
 pub fn print_reply(alloc: Global, r: &Reply) -> Result<Bytes, Memory>
     ensures text { IfOk result (λ text. text ≡ reply_text r.now) }
+    ensures line { IfOk result IsOneLine }
 
     // A reply on as many users as there may be can be said at once.
     ensures size { IfOk result (λ text. user_count r.now ≤ 16 → length text ≤ 16384) }
@@ -29,6 +32,14 @@ pub fn print_reply(alloc: Global, r: &Reply) -> Result<Bytes, Memory>
 
 /// The text of the reply to a text that is no line. Want of memory has none, and is answered.
 pub fn print_fault(alloc: Global, fault: LineFault) -> Result<Bytes, Memory>
+    ensures text { IfOk result (λ text. fault_text fault ≡ Some text) }
+    ensures line { IfOk result IsOneLine }
+    ensures size { IfOk result (λ text. length text ≤ 16384) }
+{
+    printed_fault(alloc, fault)
+}
+
+fn printed_fault(alloc: Global, fault: LineFault) -> Result<Bytes, Memory>
     ensures text { IfOk result (λ text. fault_text fault ≡ Some text) }
     ensures size { IfOk result (λ text. length text ≤ 16384) }
 {
@@ -62,8 +73,9 @@ fn verb_of(r: &Reply) -> &'static [u8]
 
 /// The words behind it.
 fn put_reply(to: &mut Bytes, r: &Reply) -> Result<(), Memory>
-    ensures { OnOk result
+    ensures words { OnOk result
         (Puts (reply_line r.now).words (600 + 600 * user_count r.now) to.old to.new) }
+    ensures names { OnOk result (NamesFiles r.now) }
 {
     match r {
         Reply::Fine => Ok(()),

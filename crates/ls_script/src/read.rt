@@ -1,8 +1,9 @@
 //! Reading a line: its verb, and then the words of the verb's row.
-ghost use Rattle.std.specs.Prelude.{◌≡◌, ◌⊎◌, None, Err, IfOk, MatchResult};
-ghost use Rattle.ls_grammar.specs.Words.{Line, line_text, IsLine};
+ghost use Rattle.std.specs.Prelude.{◌≡◌, ◌⊎◌, ◌∷◌, [], None, Err, IfOk, MatchResult};
+ghost use Rattle.ls_grammar.specs.Words.{number, a_number, Line, line_text, IsLine};
 ghost use Rattle.ls_grammar.specs.LineAnswers.{AgreesOnLine, ReadsLine, first_fault};
-ghost use Rattle.ls_grammar.specs.Reading.{read_line};
+ghost use Rattle.ls_grammar.specs.Reading.{read_line, read_words};
+ghost use Rattle.ls_grammar.specs.Steps.{AgreesAt};
 ghost use Rattle.ls_grammar.specs.declared.fault.LineFault.TheVariants.{Memory};
 ghost use Rattle.ls_script.specs.Grammar.{grammar};
 ghost use Rattle.ls_script.specs.RowAnswers.{AgreesOnRow};
@@ -13,6 +14,16 @@ use crate::script_line::ScriptLine;
 use crate::verb::{Verb, along_verbs, verb_of};
 use ls_grammar::{LineFault, Mismatch, Refused, Rest, SHORTEST_CREDENTIAL, first};
 use std::alloc::Global;
+
+/// The user that is all that is left.
+fn only_user(rest: Rest<'_>) -> Result<u32, Mismatch>
+    ensures { AgreesAt (λ user. number user ∷ []) result
+        (read_words (a_number ∷ []) rest.entry.at rest.entry.text.now) }
+{
+    let (user, rest) = rest.number()?;
+    rest.end()?;
+    Ok(user)
+}
 
 fn user_add(rest: Rest<'_>) -> Result<ScriptLine, Refused>
     ensures { AgreesOnRow Verb.UserAdd rest.entry result }
@@ -26,8 +37,7 @@ fn user_add(rest: Rest<'_>) -> Result<ScriptLine, Refused>
 fn user_drop(rest: Rest<'_>) -> Result<ScriptLine, Refused>
     ensures { AgreesOnRow Verb.UserDrop rest.entry result }
 {
-    let (user, rest) = rest.number()?;
-    rest.end()?;
+    let user = only_user(rest)?;
     Ok(ScriptLine::UserDrop { user })
 }
 
@@ -59,16 +69,14 @@ fn change(alloc: Global, rest: Rest<'_>) -> Result<ScriptLine, Refused>
 fn lock(rest: Rest<'_>) -> Result<ScriptLine, Refused>
     ensures { AgreesOnRow Verb.Lock rest.entry result }
 {
-    let (user, rest) = rest.number()?;
-    rest.end()?;
+    let user = only_user(rest)?;
     Ok(ScriptLine::Lock { user })
 }
 
 fn status(rest: Rest<'_>) -> Result<ScriptLine, Refused>
     ensures { AgreesOnRow Verb.Status rest.entry result }
 {
-    let (user, rest) = rest.number()?;
-    rest.end()?;
+    let user = only_user(rest)?;
     Ok(ScriptLine::Status { user })
 }
 
@@ -140,8 +148,7 @@ fn change_token(alloc: Global, rest: Rest<'_>) -> Result<ScriptLine, Refused>
 fn escrow_off(rest: Rest<'_>) -> Result<ScriptLine, Refused>
     ensures { AgreesOnRow Verb.EscrowOff rest.entry result }
 {
-    let (user, rest) = rest.number()?;
-    rest.end()?;
+    let user = only_user(rest)?;
     Ok(ScriptLine::EscrowOff { user })
 }
 
@@ -178,8 +185,7 @@ fn auto_pin(rest: Rest<'_>) -> Result<ScriptLine, Refused>
 fn pin_length(rest: Rest<'_>) -> Result<ScriptLine, Refused>
     ensures { AgreesOnRow Verb.PinLength rest.entry result }
 {
-    let (user, rest) = rest.number()?;
-    rest.end()?;
+    let user = only_user(rest)?;
     Ok(ScriptLine::PinLength { user })
 }
 
