@@ -9,7 +9,7 @@ use Rattle.ls_board.specs.Gatekeeper.{no_fails}
 use Rattle.ls_formats.specs.declared.part.FilePart.TheVariants.{Resume}
 use Rattle.ls_naming.specs.Named.{NamesSlot, is_armed, only_if}
 use Rattle.ls_record.specs.declared.edit.Edit.TheVariants.{PutRow}
-use Rattle.ls_record.specs.declared.row.Armed.{Armed}
+use Rattle.ls_arming.specs.declared.arming.Arming.{Arming}
 use Rattle.ls_record.specs.declared.row.UserRow.{UserRow}
 use Rattle.ls_record.specs.Edits.{changed as edited, MayChange}
 use Rattle.ls_record.specs.Rows.{Rec, IsRecord, IsArming, has, has_row}
@@ -43,7 +43,7 @@ has_there rows (u ∷ users) user all e = by (u == user) refl e (has_there rows 
     by false is e later = later e
 
 -- a user without a row isn't armed
-pub not_armed : (rows : List UserRow) (o : Option Armed) (user : ℕ) → IfSome o (IsArming rows) → ((other : UserRow) → Contains rows other → other.user ≢ user) → is_armed o user ≡ false
+pub not_armed : (rows : List UserRow) (o : Option Arming) (user : ℕ) → IfSome o (IsArming rows) → ((other : UserRow) → Contains rows other → other.user ≢ user) → is_armed o user ≡ false
 not_armed rows None user is none = refl
 not_armed rows (Some a) user is none = by (has a.users user) refl
   where

@@ -10,7 +10,7 @@ use Rattle.ls_formats.specs.PartNames.{PartOf, part_name_text}
 use Rattle.ls_naming.specs.Named.{row_files, NamesFile, NamesSlot, is_armed, has_secure}
 use Rattle.ls_record.specs.declared.edit.Edit.TheVariants.{SetArmed, ClearArmed}
 use Rattle.ls_record.specs.declared.row.UserRow.{UserRow}
-use Rattle.ls_record.specs.declared.row.Armed.{Armed}
+use Rattle.ls_arming.specs.declared.arming.Arming.{Arming}
 use Rattle.ls_record.specs.Edits.{changed as edited, MayChange}
 use Rattle.ls_record.specs.Rows.{Rec, IsRecord, has}
 use Rattle.ls_record.proofs.ChangeLemmas.{changed_keeps}
@@ -18,7 +18,7 @@ use Rattle.ls_sealing.specs.Protectors.{has_weaver, where_it_has}
 use Rattle.ls_standing.specs.Named.{held_of_row, user_file}
 use Rattle.ls_standing.specs.Opening.{first_foreign}
 use Rattle.ls_standing.specs.Sound.{IsSoundFile, SlotsAreNamedOnce}
-use Rattle.ls_standing.specs.Standing.{Holds, HoldsUser, HoldsResume, NamedAreUntouched, arming_of}
+use Rattle.ls_standing.specs.Standing.{Holds, HoldsUser, HoldsResume, NamedAreUntouched, kept_arming}
 use Rattle.ls_sealing.specs.Chain.{opened_resume}
 use Rattle.ls_standing.proofs.CheckLemmas.{alone, together}
 use Rattle.ls_standing.proofs.ContainsLemmas.{in_flat, of_flat}
@@ -33,7 +33,7 @@ use Rattle.ls_edits.proofs.ZipLemmas.{zip_found, user_there, held_there}
 
 -- ---- the record with another arming
 
-module _ (w : World) (r : Rec) (armed : Option Armed) where
+module _ (w : World) (r : Rec) (armed : Option Arming) where
   abbrev next : Rec
   next = record { users = r.users; armed = armed }
 
@@ -79,13 +79,13 @@ module _ (w : World) (r : Rec) (v : Vault) (is : IsRecord r) (holds : Holds w r 
   abbrev R : UserRow → User → Type 0
   R x u = HoldsUser x (held_of_row w r.armed x) u
 
-  pub armed_holds : (a : Armed) (once : List ℕ) → MayChange r (SetArmed a) → w.cell ≡ Some once → AllHaveResume w r v a once
-      → Holds w (edited r (SetArmed a)) (record v { arming = Some (record { boot = a.boot; users = a.users }) })
+  pub armed_holds : (a : Arming) (once : List ℕ) → MayChange r (SetArmed a) → w.cell ≡ Some once → AllHaveResume w r v a once
+      → Holds w (edited r (SetArmed a)) (record v { arming = Some a })
   armed_holds a once may cell its = record {
     users = zip_found R S (λ x u h. h.says.number) r.users v.users holds.users is.pairs
         (λ x u h found held. user_again w x (is_armed r.armed x.user) (has a.users x.user) u held (resume_held w x once u (has a.users x.user) cell (its x u h found)));
     files = arm_passes w r (Some a) (changed_keeps r is (SetArmed a) may) holds.files sound;
-    arming = sym (ap (λ (o : Option (List ℕ)). arming_of (Some a) o) cell);
+    arming = sym (ap (kept_arming (Some a)) cell);
   }
     where
       S : UserRow → User → Type 0
@@ -101,14 +101,18 @@ module _ (w : World) (r : Rec) (v : Vault) (is : IsRecord r) (holds : Holds w r 
   cleared_holds = record {
     users = zip_found R S (λ x u h. h.says.number) r.users v.users holds.users is.pairs (λ x u h found held. user_again w x (is_armed r.armed x.user) false u held tt);
     files = arm_passes w r None (changed_keeps r is ClearArmed tt) holds.files (λ row h on. let bad : false ≡ true = on in absurd (cc));
-    arming = refl;
+    arming = none_is_kept w.cell;
   }
     where
+      none_is_kept : (cell : Option (List ℕ)) → None ≡ kept_arming None cell
+      none_is_kept None = refl
+      none_is_kept (Some once) = refl
+
       S : UserRow → User → Type 0
       S x u = HoldsUser x (held_of_row w None x) u
 
   pub clear_holds : v.arming ≡ None → Holds w (edited r ClearArmed) v
-  clear_holds none = record { users = cleared_holds.users; files = cleared_holds.files; arming = none }
+  clear_holds none = record { users = cleared_holds.users; files = cleared_holds.files; arming = none ∙ cleared_holds.arming }
 
 -- ---- read the other way
 

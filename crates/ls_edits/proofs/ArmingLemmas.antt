@@ -13,7 +13,7 @@ use Rattle.ls_board.proofs.LookupLemmas.{put_same}
 use Rattle.ls_board.proofs.RunLemmas.{after_all-append}
 use Rattle.ls_formats.specs.PartNames.{part_name_text}
 use Rattle.ls_record.specs.declared.edit.Edit.TheVariants.{SetArmed}
-use Rattle.ls_record.specs.declared.row.Armed.{Armed}
+use Rattle.ls_arming.specs.declared.arming.Arming.{Arming}
 use Rattle.ls_record.specs.Edits.{changed as edited, MayChange}
 use Rattle.ls_record.specs.Rows.{Rec, IsRecord}
 use Rattle.ls_standing.specs.Quiet.{unnamed}
@@ -31,7 +31,7 @@ use Rattle.ls_edits.proofs.PutFilesLemmas.{put_all, put_rest, AreSmall}
 use Rattle.ls_edits.proofs.UnarmedLemmas.{no_key, files_touch, touch_append, rows_users}
 use Rattle.ls_edits.proofs.ReadyLemmas.{same_synced}
 
-module _ (w : World) (r : Rec) (v : Vault) (a : Armed) (key once : List ℕ) (content : ℕ → List ℕ) (is : IsRecord r) (holds : Holds w r v) (unarmed : r.armed ≡ None)
+module _ (w : World) (r : Rec) (v : Vault) (a : Arming) (key once : List ℕ) (content : ℕ → List ℕ) (is : IsRecord r) (holds : Holds w r v) (unarmed : r.armed ≡ None)
     (may : MayChange r (SetArmed a)) (opens : AllOpen r v a key once content) where
   small : AreSmall a.users
   small = rows_users r.users a.users (λ x h. (is_row r is x h).user) may.there
@@ -78,8 +78,8 @@ module _ (w : World) (r : Rec) (v : Vault) (a : Armed) (key once : List ℕ) (co
         opens = subst (λ (k : Option (List ℕ)). OpensFor k once (content row.user) u) (sym key_there) its.opens;
       }
 
-  pub arming_readied : Holds (after_all w plan) (edited r (SetArmed a)) (record v { arming = Some (record { boot = a.boot; users = a.users }) })
-  arming_readied = subst (λ (z : World). Holds z (edited r (SetArmed a)) (record v { arming = Some (record { boot = a.boot; users = a.users }) })) (sym last_is)
+  pub arming_readied : Holds (after_all w plan) (edited r (SetArmed a)) (record v { arming = Some a })
+  arming_readied = subst (λ (z : World). Holds z (edited r (SetArmed a)) (record v { arming = Some a })) (sym last_is)
       (armed_holds last r v is (holds_same r w last same v holds) a once may refl all_have)
 
   pub arming_untouched : NamedAreUntouched (after_all w plan) (edited r (SetArmed a))

@@ -32,7 +32,8 @@ use Rattle.ls_standing.proofs.UnnamedLemmas.{left_out}
 use Rattle.ls_vault.specs.declared.user.User.{User}
 use Rattle.ls_vault.specs.declared.vault.Vault.{Vault}
 use Rattle.ls_vault.specs.Users.{with_user, without_user}
-use Rattle.ls_vault.specs.UserChanges.{new_user, arming_without}
+use Rattle.ls_vault.specs.UserChanges.{new_user}
+use Rattle.ls_arming.specs.Disarming.{disarmed}
 use Rattle.ls_edits.specs.Rows.{new_row}
 use Rattle.ls_edits.proofs.DropLemmas.{dropped, of_drop}
 use Rattle.ls_edits.proofs.PutRowLemmas.{row_put}
@@ -62,7 +63,7 @@ module _ (w : World) (r : Rec) (v : Vault) (user id : ℕ) (slot : Option ℕ) (
   less = edited next (DropRow user)
 
   abbrev last : Vault
-  last = record { users = without_user (with_user v.users u) user; arming = arming_without v.arming user }
+  last = record { users = without_user (with_user v.users u) user; arming = disarmed v.arming user }
 
   held_next : Holds staged next (record v { users = with_user v.users u })
   held_next = readied w r v user id slot drawn bytes is holds none may unnamed fits secret are

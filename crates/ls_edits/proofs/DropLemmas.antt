@@ -1,5 +1,5 @@
 -- A world holds a record without one row.
-use Rattle.std.proofs.Common.{◌≡◌, ◌≢◌, ℕ, ◌||◌, not, Bool, true, false, cond, List, [], ◌∷◌, map, length, Option, None, Some, refl, sym, ◌∙◌, ap, subst, arith}
+use Rattle.std.proofs.Common.{◌≡◌, ◌≢◌, ℕ, ◌||◌, not, Bool, true, false, cond, List, [], ◌∷◌, map, Option, None, Some, refl, sym, ◌∙◌, ap, subst}
 use Rattle.std.specs.Prelude.{◌==◌, filter}
 use Rattle.std.specs.List.{AllZip, Contains}
 use Rattle.std.proofs.lemmas.Bool.{eqb-true, eqb-false, ne_eqb, not-true}
@@ -9,23 +9,22 @@ use Rattle.ls_formats.specs.PartNames.{PartOf}
 use Rattle.ls_naming.specs.Named.{row_files, NamesFile, NamesSlot, is_armed}
 use Rattle.ls_record.specs.declared.edit.Edit.TheVariants.{DropRow}
 use Rattle.ls_record.specs.declared.row.UserRow.{UserRow}
-use Rattle.ls_record.specs.declared.row.Armed.{Armed}
-use Rattle.ls_record.specs.Edits.{changed as edited, disarmed, arming_of as left_armed, MayChange}
+use Rattle.ls_record.specs.Edits.{changed as edited, MayChange}
+use Rattle.ls_arming.specs.Disarming.{arming_of, disarmed}
 use Rattle.ls_record.specs.Rows.{Rec, IsRecord, has}
 use Rattle.ls_record.proofs.ChangeLemmas.{changed_keeps, split_rows}
 use Rattle.ls_sealing.specs.Protectors.{has_weaver, held}
 use Rattle.ls_standing.specs.Named.{held_of_row, RowHeld, credential_of, token_of}
 use Rattle.ls_standing.specs.Opening.{first_foreign}
 use Rattle.ls_standing.specs.Sound.{IsSoundFile, SlotsAreNamedOnce}
-use Rattle.ls_standing.specs.Standing.{Holds, HoldsUser, NamedAreUntouched, arming_of}
+use Rattle.ls_standing.specs.Standing.{Holds, HoldsUser, NamedAreUntouched, kept_arming}
 use Rattle.ls_standing.proofs.CheckLemmas.{alone, together}
 use Rattle.ls_standing.proofs.SlotLemmas.{one_name}
 use Rattle.ls_standing.proofs.ContainsLemmas.{in_flat, of_flat}
 use Rattle.ls_vault.specs.declared.user.User.{User}
-use Rattle.ls_vault.specs.declared.vault.Arming.{Arming}
+use Rattle.ls_arming.specs.declared.arming.Arming.{Arming}
 use Rattle.ls_vault.specs.declared.vault.Vault.{Vault}
 use Rattle.ls_vault.specs.Users.{without_user}
-use Rattle.ls_vault.specs.UserChanges.{arming_without, arming_of as arming_left}
 use Rattle.ls_edits.proofs.FilterLemmas.{filtered_in}
 use Rattle.ls_edits.proofs.HeldLemmas.{files_by, user_by}
 use Rattle.ls_edits.proofs.ZipLemmas.{zip_without}
@@ -43,34 +42,25 @@ has_still (u ∷ users) user k apart = by (u == user) refl (has_still users user
         later ∙ ap (λ (b : Bool). b || has users k) (sym (ne_eqb u k (λ e. apart (sym e ∙ its))))
     by false is later = ap (λ (b : Bool). (u == k) || b) later
 
-armed_left : (boot : ℕ) (users : List ℕ) (k : ℕ) → is_armed (left_armed boot users) k ≡ has users k
+armed_left : (boot : ℕ) (users : List ℕ) (k : ℕ) → is_armed (arming_of boot users) k ≡ has users k
 armed_left boot [] k = refl
 armed_left boot (u ∷ users) k = refl
 
-armed_still : (o : Option Armed) (user k : ℕ) → k ≢ user → is_armed (disarmed o user) k ≡ is_armed o k
+armed_still : (o : Option Arming) (user k : ℕ) → k ≢ user → is_armed (disarmed o user) k ≡ is_armed o k
 armed_still None user k apart = refl
 armed_still (Some a) user k apart = armed_left a.boot (filter (λ u. not (u == user)) a.users) k ∙ has_still a.users user k apart
 
-no_arming : (boot : ℕ) (users : List ℕ) → ◌≡◌ {A = Option Arming} None (arming_of (left_armed boot users) None)
-no_arming boot [] = refl
-no_arming boot (u ∷ users) = refl
-
-some_arming : (boot : ℕ) (users once : List ℕ) → arming_left boot users ≡ arming_of (left_armed boot users) (Some once)
-some_arming boot [] once = refl
-some_arming boot (u ∷ users) once = ap (λ (b : Bool). cond {A = Option Arming} b None (Some (record { boot = boot; users = u ∷ users }))) (ne_eqb (length (u ∷ users)) 0 (λ e. omega (arith, e)))
-
-arming_dropped : (o : Option Armed) (cell : Option (List ℕ)) (user : ℕ) → arming_without (arming_of o cell) user ≡ arming_of (disarmed o user) cell
-arming_dropped None cell user = refl
-arming_dropped (Some a) None user = no_arming a.boot (filter (λ u. not (u == user)) a.users)
-arming_dropped (Some a) (Some once) user = some_arming a.boot (filter (λ u. not (u == user)) a.users) once
+arming_dropped : (o : Option Arming) (cell : Option (List ℕ)) (user : ℕ) → disarmed (kept_arming o cell) user ≡ kept_arming (disarmed o user) cell
+arming_dropped o None user = refl
+arming_dropped o (Some once) user = refl
 
 -- ---- rows of others
 
 module _ (w : World) (row : UserRow) where
-  pub files_still : (weaver : Bool) (o : Option Armed) (user : ℕ) → row.user ≢ user → row_files weaver (disarmed o user) row ≡ row_files weaver o row
+  pub files_still : (weaver : Bool) (o : Option Arming) (user : ℕ) → row.user ≢ user → row_files weaver (disarmed o user) row ≡ row_files weaver o row
   files_still weaver o user apart = ap (λ (b : Bool). files_by w row weaver b) (armed_still o user row.user apart)
 
-  pub held_still : (o : Option Armed) (user : ℕ) → row.user ≢ user → held_of_row w (disarmed o user) row ≡ held_of_row w o row
+  pub held_still : (o : Option Arming) (user : ℕ) → row.user ≢ user → held_of_row w (disarmed o user) row ≡ held_of_row w o row
   held_still o user apart =
       ap (λ (b : Bool). record { user = user_by w row b; credential = held w (credential_of row); tokens = map (λ id. held w (token_of row id)) row.tokens }) (armed_still o user row.user apart)
 
@@ -111,12 +101,12 @@ module _ (w : World) (r : Rec) (user : ℕ) (is : IsRecord r) where
           let at = of_drop x h in
           alone w r none x name at.0 (subst (λ (l : List PartOf). Contains l name) (files_still w x weaver r.armed user at.1) own)
 
-  pub dropped : (v : Vault) → Holds w r v → MayChange r (DropRow user) → Holds w next (record { users = without_user v.users user; arming = arming_without v.arming user })
+  pub dropped : (v : Vault) → Holds w r v → MayChange r (DropRow user) → Holds w next (record { users = without_user v.users user; arming = disarmed v.arming user })
   dropped v holds may = record {
     users = subst (λ (l : List UserRow). AllZip S l (without_user v.users user)) (sym (split_rows r.users user is.pairs))
         (zip_without R S (λ x u h. h.says.number) user (λ x u apart h. subst (λ (z : RowHeld). HoldsUser x z u) (sym (held_still w x r.armed user apart)) h) r.users v.users holds.users);
     files = drop_passes may holds.files;
-    arming = ap (λ (a : Option Arming). arming_without a user) holds.arming ∙ arming_dropped r.armed w.cell user;
+    arming = ap (λ (a : Option Arming). disarmed a user) holds.arming ∙ arming_dropped r.armed w.cell user;
   }
     where
       R : UserRow → User → Type 0

@@ -7,7 +7,7 @@ use Rattle.ls_board.specs.Gatekeeper.{signed, salt_of}
 use Rattle.ls_formats.specs.declared.part.FilePart.TheVariants.{Handle, E0, P1, Resume}
 use Rattle.ls_naming.specs.Membership.{same_part}
 use Rattle.ls_naming.specs.Named.{only_if, has_secure, is_armed}
-use Rattle.ls_record.specs.declared.row.Armed.{Armed}
+use Rattle.ls_arming.specs.declared.arming.Arming.{Arming}
 use Rattle.ls_record.specs.declared.row.UserRow.{UserRow}
 use Rattle.ls_secret.specs.declared.personal.Personal.TheVariants.{SpGkAuthentication}
 use Rattle.ls_secret.specs.Derivation.{subkey_of}
@@ -37,7 +37,7 @@ match_of false h sealings u auto P is = is
 handle_auto : (h : UserHeld) (u : User) (auto : Bool) → HoldsHandle h u → HoldsHandle h (record u { auto = auto })
 handle_auto h u auto is = record { handle = is.handle; counter = is.counter }
 
-pub pin_held : (w : World) (armed : Option Armed) (row : UserRow) (u : User) (auto : Bool) (pin : ℕ) → pin ≡ shown_length (record u { auto = auto })
+pub pin_held : (w : World) (armed : Option Arming) (row : UserRow) (u : User) (auto : Bool) (pin : ℕ) → pin ≡ shown_length (record u { auto = auto })
     → HoldsUser row (held_of_row w armed row) u → HoldsUser (with_pin auto pin row) (held_of_row w armed (with_pin auto pin row)) (record u { auto = auto })
 pin_held w armed row u auto pin shown is = record {
   says = record { number = is.says.number; kind = is.says.kind; rule = is.says.rule; escrow = is.says.escrow; auto = refl; pin = shown; secure = is.says.secure; tokens = is.says.tokens };
@@ -81,7 +81,7 @@ module _ (keeps : ℕ → Bool) where
       by true later = ap (λ (l : List ℕ). t.id ∷ l) later
       by false later = later
 
-  module _ (w : World) (armed : Option Armed) (row : UserRow) (u : User) where
+  module _ (w : World) (armed : Option Arming) (row : UserRow) (u : User) where
     abbrev h : RowHeld
     h = held_of_row w armed row
 
@@ -136,7 +136,7 @@ module _ (R : Held → Token → Type 0) (f : ℕ → Held) where
   zip_more (id ∷ ids) [] more all new = absurd all
   zip_more (id ∷ ids) (t ∷ ts) more all new = (all.0, zip_more ids ts more all.1 new)
 
-module _ (w : World) (armed : Option Armed) (row : UserRow) (u : User) (more : List Token) (seal : SealTheHalf w armed row u more) where
+module _ (w : World) (armed : Option Arming) (row : UserRow) (u : User) (more : List Token) (seal : SealTheHalf w armed row u more) where
   abbrev longer : UserRow
   longer = with_more_tokens (map (λ t. t.id) more) row
 
@@ -193,7 +193,7 @@ resume_beside true false a = refl
 resume_beside false true a = refl
 resume_beside false false a = refl
 
-module _ (w : World) (armed : Option Armed) (row : UserRow) (u : User) where
+module _ (w : World) (armed : Option Arming) (row : UserRow) (u : User) where
   abbrev was : UserHeld
   was = held_of_user w armed row
 

@@ -8,7 +8,7 @@ use Rattle.ls_formats.specs.declared.part.FilePart.{FilePart}
 use Rattle.ls_formats.specs.declared.part.FilePart.TheVariants.{Handle, E0, P1, Resume}
 use Rattle.ls_formats.specs.PartNames.{PartOf}
 use Rattle.ls_naming.specs.Named.{row_files, user_parts, has_secure, is_armed, parts_of, credential_parts, token_parts, token_files, only_if}
-use Rattle.ls_record.specs.declared.row.Armed.{Armed}
+use Rattle.ls_arming.specs.declared.arming.Arming.{Arming}
 use Rattle.ls_record.specs.declared.row.UserRow.{UserRow}
 use Rattle.ls_sealing.specs.Protectors.{Protector}
 use Rattle.ls_standing.specs.Named.{credential_of, token_of}
@@ -56,7 +56,7 @@ module _ (old row : UserRow) (less : HasNoNewPart old row) where
           behind_first (credential_of old) (map (token_of old) old.tokens) p
           (subst (λ (x : Protector). Contains (map (token_of old) old.tokens) x) (sym (its_token found.0) ∙ found.2) (in_map (token_of old) old.tokens found.0 (less.tokens found.0 found.1)))
 
-  module _ (weaver : Bool) (armed : Option Armed) where
+  module _ (weaver : Bool) (armed : Option Arming) where
     abbrev back : UserRow → List PartOf
     back x = parts_of x.user x.protector (credential_parts weaver x.kind) ++ token_files weaver x
 

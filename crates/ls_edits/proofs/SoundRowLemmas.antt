@@ -1,56 +1,35 @@
 -- Rows that may be put into the record of a world.
-use Rattle.std.proofs.Common.{◌≡◌, ⊎_elim, ◌≢◌, ◌⊎◌, inl, inr, ◌<◌, ◌^◌, ℕ, Bool, true, false, List, ◌++◌, map, None, Some, refl, sym, ap, subst, ◌∙◌}
-use Rattle.std.specs.List.{Contains, list_any}
-use Rattle.std.specs.Option.{option_and_then}
-use Rattle.std.proofs.lemmas.Bool.{eq-eqb, ne_eqb}
+use Rattle.std.proofs.Common.{◌≡◌, ⊎_elim, ◌≢◌, ◌⊎◌, inl, inr, ◌<◌, ◌^◌, ℕ, Bool, true, false, List, ◌++◌, map, None, Some, sym, ap, subst, ◌∙◌}
+use Rattle.std.specs.List.{Contains}
+use Rattle.std.proofs.lemmas.Bool.{ne_eqb}
 use Rattle.std.proofs.lemmas.List.Elements.{Contains-append_left, Contains-append_cases}
 use Rattle.ls_board.specs.declared.world.World.{World}
 use Rattle.ls_board.specs.Effect.{file_at}
-use Rattle.ls_formats.specs.Contents.{slot_bytes}
 use Rattle.ls_formats.specs.declared.part.FilePart.{FilePart}
 use Rattle.ls_formats.specs.declared.part.FilePart.TheVariants.{Pwd, Weaver, Handle}
-use Rattle.ls_formats.specs.PartNames.{PartOf, part_name_text}
-use Rattle.ls_naming.specs.Membership.{same_part, part_number}
+use Rattle.ls_formats.specs.PartNames.{PartOf}
 use Rattle.ls_naming.specs.Named.{row_files, NamesFile, NamesSlot, user_parts, credential_parts, token_parts, parts_of, token_files}
 use Rattle.ls_record.specs.declared.edit.Edit.TheVariants.{PutRow}
 use Rattle.ls_record.specs.declared.row.UserRow.{UserRow}
 use Rattle.ls_record.specs.Edits.{MayChange}
 use Rattle.ls_record.specs.Rows.{Rec, IsRecord, is_odd}
-use Rattle.ls_sealing.specs.Protectors.{Protector, token, has_weaver, has_part, held_number, parts_for, file_name, slot_number, where_it_has}
-use Rattle.ls_sealing.proofs.WritingLemmas.{number_again_slot}
+use Rattle.ls_sealing.specs.Protectors.{Protector, token, has_weaver, has_part, held_number, parts_for}
 use Rattle.ls_standing.specs.Named.{credential_of, token_of}
 use Rattle.ls_standing.specs.NamedProtectors.{row_protectors, NamesProtector}
 use Rattle.ls_standing.specs.Opening.{first_foreign}
 use Rattle.ls_standing.specs.Sound.{IsSoundFile}
 use Rattle.ls_standing.specs.Standing.{NamedAreUntouched}
 use Rattle.ls_standing.proofs.CheckLemmas.{alone}
-use Rattle.ls_standing.proofs.ContainsLemmas.{at_first, behind_first, first_or_behind, in_map, of_map, in_flat, of_flat, any_contained}
+use Rattle.ls_standing.proofs.ContainsLemmas.{at_first, behind_first, first_or_behind, in_map, of_map, in_flat, of_flat}
 use Rattle.ls_standing.proofs.IdLemmas.{even_not_odd, is_row}
 use Rattle.ls_standing.proofs.NamedLemmas.{part_found}
 use Rattle.ls_standing.proofs.PairLemmas.{each_in}
-use Rattle.ls_standing.proofs.ProtectorLemmas.{protector_files, in_row, of_row, named}
+use Rattle.ls_standing.proofs.ProtectorLemmas.{any_part, number_held, protector_files, in_row, of_row, named}
 use Rattle.ls_standing.proofs.SlotLemmas.{one_name}
 use Rattle.ls_edits.specs.Rows.{HasNoNewPart, HasSameCredential}
 use Rattle.ls_edits.specs.SoundRows.{NamesSlotBy, IsSoundRow, RowIsUntouched, IsCheckedAlike, HasNewSlot, HasSoundUser, IsSoundProtector, HasSoundProtectors, IsTokenOf, IsOldOrNewToken, HaveOwnSlots}
 use Rattle.ls_edits.proofs.AlikeLemmas.{alike_sound}
 use Rattle.ls_edits.proofs.PartLemmas.{less_files, less_protectors, less_alike}
-
--- the part of each element passes its own test
-own_part : (part : FilePart) (parts : List FilePart) → Contains parts part → list_any (same_part part) parts ≡ true
-own_part part parts h = any_contained (same_part part) parts part h (eq-eqb (part_number part) (part_number part) refl)
-
--- the `weaver` file of a protector names its slot
-number_of : (w : World) (p : Protector) (name : PartOf) (slot : ℕ) → Contains (protector_files (has_weaver w) p) name → name.part ≡ Weaver
-    → slot < 2 ^ 32 → file_at w (part_name_text name) ≡ Some (slot_bytes (record { slot = slot })) → held_number w p ≡ Some slot
-number_of w p name slot within part small holds =
-    let found = of_map (λ (x : FilePart). record { user = p.user; id = p.id; part = x }) (parts_for (has_weaver w) p.purpose) name within in
-    let is : found.0 ≡ Weaver = ap (λ (n : PartOf). n.part) found.2 ∙ part in
-    let has = own_part Weaver (parts_for (has_weaver w) p.purpose) (subst (Contains (parts_for (has_weaver w) p.purpose)) is found.1) in
-    let its : part_name_text name ≡ file_name p Weaver = ap part_name_text (sym found.2) ∙ ap (file_name p) is in
-    ap (λ (x : Bool). option_and_then slot_number (where_it_has x (file_at w (file_name p Weaver)))) has
-    ∙ ap (λ (n : List ℕ). option_and_then slot_number (file_at w n)) (sym its)
-    ∙ ap (option_and_then slot_number) holds
-    ∙ number_again_slot slot small
 
 -- ---- which files a row names
 
@@ -72,7 +51,7 @@ module _ (weaver : Bool) (r : Rec) (row : UserRow) where
   its_files : (p : Protector) (name : PartOf) → Contains (row_protectors row) p → Contains (protector_files weaver p) name → IsOf weaver row name
   its_files p name own h =
       let found = of_map (λ (x : FilePart). record { user = p.user; id = p.id; part = x }) (parts_for weaver p.purpose) name h in
-      record { of = p; own = own; part = found.0; has = own_part found.0 (parts_for weaver p.purpose) found.1; is = found.2 }
+      record { of = p; own = own; part = found.0; has = any_part (parts_for weaver p.purpose) found.0 found.1; is = found.2 }
 
   of_files : (name : PartOf) → Contains (row_files weaver r.armed row) name → IsOfUser r row name ⊎ IsOf weaver row name
   of_files name h = by (Contains-append_cases (parts_of row.user 0 (user_parts r.armed row)) (its ++ token_files weaver row) name h)
@@ -125,7 +104,7 @@ module _ (w : World) (r : Rec) (row : UserRow) (none : first_foreign w r ≡ Non
         own = its.own;
         within = its.within;
         is = ap (λ (p : FilePart). record { user = its.of.user; id = its.of.id; part = p }) (sym part) ∙ found.2;
-        number = number_of w its.of name slot its.within names.part names.small names.holds;
+        number = number_held w its.of name slot its.within names.part names.small names.holds;
       }
 
   -- a protector that the record names has its files there

@@ -15,7 +15,7 @@ use Rattle.ls_formats.specs.PartNames.{PartOf}
 use Rattle.ls_naming.specs.Named.{row_files, row_keys, NamesFile, NamesKey, has_secure, parts_of, credential_parts, token_parts, token_files, only_if}
 use Rattle.ls_naming.specs.Membership.{same_part}
 use Rattle.ls_record.specs.declared.row.UserRow.{UserRow}
-use Rattle.ls_record.specs.declared.row.Armed.{Armed}
+use Rattle.ls_arming.specs.declared.arming.Arming.{Arming}
 use Rattle.ls_record.specs.Rows.{Rec, IsRecord, IsRow, has, has_row, is_protector_id, is_odd}
 use Rattle.ls_sealing.specs.Protectors.{has_weaver}
 use Rattle.ls_standing.specs.Quiet.{unnamed}
@@ -57,7 +57,7 @@ module _ (w : World) (r : Rec) (is : IsRecord r) (unarmed : r.armed ≡ None) wh
   no_resume user named = by (of_flat (row_files (has_weaver w) r.armed) r.users (resume_of user) named)
     where
       by : (x : UserRow) × Contains r.users x × Contains (row_files (has_weaver w) r.armed x) (resume_of user) → ⊥
-      by (x, h, own) = cases (Contains-append_cases one (two ++ three) (resume_of user) (subst (λ (o : Option Armed). Contains (row_files (has_weaver w) o x) (resume_of user)) unarmed own))
+      by (x, h, own) = cases (Contains-append_cases one (two ++ three) (resume_of user) (subst (λ (o : Option Arming). Contains (row_files (has_weaver w) o x) (resume_of user)) unarmed own))
         where
           parts : List FilePart
           parts = only_if (has_secure x) (Handle ∷ []) ++ (only_if x.escrow (E0 ∷ P1 ∷ []) ++ [])
@@ -84,7 +84,7 @@ module _ (w : World) (r : Rec) (is : IsRecord r) (unarmed : r.armed ≡ None) wh
               (Contains-append_cases two three (resume_of user) has)
 
   pub no_key : ¬ (NamesKey r 0)
-  no_key named = by (Contains-append_cases (keys r.users) [] 0 (subst (λ (o : Option Armed). NamesKey (record { users = r.users; armed = o }) 0) unarmed named))
+  no_key named = by (Contains-append_cases (keys r.users) [] 0 (subst (λ (o : Option Arming). NamesKey (record { users = r.users; armed = o }) 0) unarmed named))
     where
       keys : List UserRow → List ℕ
       keys users = flat_map row_keys users

@@ -8,7 +8,7 @@ use Rattle.ls_board.specs.Keys.{key_at}
 use Rattle.ls_gcm.specs.Gcm.{gcm_seal}
 use Rattle.ls_formats.specs.declared.part.FilePart.TheVariants.{Resume}
 use Rattle.ls_formats.specs.PartNames.{PartOf, part_name_text}
-use Rattle.ls_record.specs.declared.row.Armed.{Armed}
+use Rattle.ls_arming.specs.declared.arming.Arming.{Arming}
 use Rattle.ls_record.specs.declared.row.UserRow.{UserRow}
 use Rattle.ls_record.specs.Rows.{Rec, has}
 use Rattle.ls_standing.specs.Named.{user_file}
@@ -39,7 +39,7 @@ abbrev pub resume_bytes : List ℕ → List ℕ → List ℕ → List ℕ → Li
 resume_bytes key once inner_iv outer_iv sp = 1 ∷ gcm_seal key outer_iv (gcm_seal once inner_iv sp)
 
 -- each user of the arming has it
-abbrev pub AllHaveResume : World → Rec → Vault → Armed → List ℕ → Type 0
+abbrev pub AllHaveResume : World → Rec → Vault → Arming → List ℕ → Type 0
 AllHaveResume w r v a once =
     (row : UserRow) (u : User) → Contains r.users row → user_of v.users row.user ≡ Some u
     → has a.users row.user ≡ true → HasResume w once row u
@@ -56,7 +56,7 @@ pub record IsResumeFor (key once file : List ℕ) (row : UserRow) (u : User) : T
   pub opens : OpensFor (Some key) once file u
 
 -- the file of each user of the arming is one
-abbrev pub AllOpen : Rec → Vault → Armed → List ℕ → List ℕ → (ℕ → List ℕ) → Type 0
+abbrev pub AllOpen : Rec → Vault → Arming → List ℕ → List ℕ → (ℕ → List ℕ) → Type 0
 AllOpen r v a key once content =
     (row : UserRow) (u : User) → Contains r.users row → user_of v.users row.user ≡ Some u
     → has a.users row.user ≡ true → IsResumeFor key once (content row.user) row u

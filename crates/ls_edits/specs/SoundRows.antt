@@ -10,7 +10,7 @@ use Rattle.ls_formats.specs.declared.part.FilePart.TheVariants.{SpBlob, Pwd, Wea
 use Rattle.ls_formats.specs.PartNames.{PartOf, part_name_text}
 use Rattle.ls_naming.specs.Named.{user_parts, row_files, NamesFile, NamesSlot}
 use Rattle.ls_record.specs.declared.edit.Edit.TheVariants.{PutRow}
-use Rattle.ls_record.specs.declared.row.Armed.{Armed}
+use Rattle.ls_arming.specs.declared.arming.Arming.{Arming}
 use Rattle.ls_record.specs.declared.row.UserRow.{UserRow}
 use Rattle.ls_record.specs.Edits.{MayChange}
 use Rattle.ls_record.specs.Rows.{Rec}
@@ -119,7 +119,7 @@ HaveOwnSlots w r row =
 
 -- The protectors of these tokens, on the row's user, seal the half of the secret to which the `e0`
 -- file of the user opens.
-abbrev pub SealTheHalf : World → Option Armed → UserRow → User → List Token → Type 0
+abbrev pub SealTheHalf : World → Option Arming → UserRow → User → List Token → Type 0
 SealTheHalf w armed row u more =
     (p0 : List ℕ)
     → option_and_then (opened_e0 u.secret) ((held_of_user w armed row).files E0) ≡ Some p0

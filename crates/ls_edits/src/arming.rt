@@ -6,7 +6,7 @@ ghost use Rattle.ls_board.specs.Effect.{touch_at};
 ghost use Rattle.ls_formats.specs.PartNames.{part_name_text};
 ghost use Rattle.ls_naming.specs.Named.{is_armed};
 ghost use Rattle.ls_record.specs.declared.edit.Edit.TheVariants.{SetArmed, ClearArmed};
-ghost use Rattle.ls_record.specs.declared.row.Armed.{Armed as Armings};
+ghost use Rattle.ls_arming.specs.declared.arming.Arming.{Arming as Armings};
 ghost use Rattle.ls_record.specs.declared.row.UserRow.{UserRow};
 ghost use Rattle.ls_record.specs.Edits.{changed as edited, MayChange};
 ghost use Rattle.ls_record.specs.Rows.{Rec, IsRecord, has};
@@ -27,8 +27,7 @@ pub fn users_are_armed()
     ensures holds { (w : Worlds) (r : Rec) (v : Vaults) (a : Armings) (once : List ℕ)
         → IsRecord r → Holds w r v → MayChange r (SetArmed a) → w.cell ≡ Some once
         → AllHaveResume w r v a once
-        → Holds w (edited r (SetArmed a))
-        (record v { arming = Some (record { boot = a.boot; users = a.users }) }) }
+        → Holds w (edited r (SetArmed a)) (record v { arming = Some a }) }
     ensures untouched { (w : Worlds) (r : Rec) (a : Armings) → NamedAreUntouched w r
         → ((row : UserRow) → Contains r.users row → has a.users row.user ≡ true
         → touch_at w (part_name_text (resume_name row)) ≡ None)

@@ -7,5 +7,6 @@ use ls_credential::Credential;
 pub fn counts_are_small(credential: &Credential)
     ensures small { IsSmall (metrics_of credential.now) }
 {
-    let _counts = credential.metrics();
+    let counts = credential.metrics();
+    let _length = counts.length;
 }

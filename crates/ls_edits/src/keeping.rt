@@ -1,7 +1,7 @@
 //! A user who keeps its credential: with other tokens, without escrow, with another length shown.
 ghost use Rattle.std.specs.Prelude.{◌≡◌, ℕ, Bool, true, List, map, Option};
 ghost use Rattle.ls_board.specs.declared.world.World.{World as Worlds};
-ghost use Rattle.ls_record.specs.declared.row.Armed.{Armed as Armings};
+ghost use Rattle.ls_arming.specs.declared.arming.Arming.{Arming as Armings};
 ghost use Rattle.ls_record.specs.declared.row.UserRow.{UserRow};
 ghost use Rattle.ls_record.specs.Rows.{IsRow, is_shown_length};
 ghost use Rattle.ls_standing.specs.Named.{held_of_row};

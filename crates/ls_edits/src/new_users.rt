@@ -25,7 +25,8 @@ ghost use Rattle.ls_sealing.specs.HeldBytes.{AllHoldBytes};
 ghost use Rattle.ls_standing.specs.Standing.{Holds, NamedAreUntouched};
 ghost use Rattle.ls_vault.specs.declared.vault.Vault.{Vault as Vaults};
 ghost use Rattle.ls_vault.specs.Users.{with_user, without_user};
-ghost use Rattle.ls_vault.specs.UserChanges.{new_user, arming_without};
+ghost use Rattle.ls_vault.specs.UserChanges.{new_user};
+ghost use Rattle.ls_arming.specs.Disarming.{disarmed};
 ghost use Rattle.ls_edits.specs.Rows.{new_row};
 ghost use Rattle.ls_edits.specs.SoundRows.{HasNewSlot};
 
@@ -79,7 +80,7 @@ pub fn a_user_comes_and_goes()
         → Holds (after_all staged (retiring_actions p (held_number staged p)))
         (edited (edited r (PutRow row)) (DropRow user)) (record {
           users = without_user (with_user v.users u) user;
-          arming = arming_without v.arming user;
+          arming = disarmed v.arming user;
         }) }
     ensures first { (slots user id : ℕ) (slot : Option ℕ) (drawn bytes : List ℕ)
         → let w = blank_world slots in

@@ -2,7 +2,7 @@
 ghost use Rattle.std.specs.Prelude.{◌≡◌, ℕ, List, Some, None};
 ghost use Rattle.ls_board.specs.declared.world.World.{World as Worlds};
 ghost use Rattle.ls_record.specs.declared.edit.Edit.TheVariants.{SetArmed};
-ghost use Rattle.ls_record.specs.declared.row.Armed.{Armed as Armings};
+ghost use Rattle.ls_arming.specs.declared.arming.Arming.{Arming as Armings};
 ghost use Rattle.ls_record.specs.declared.row.UserRow.{UserRow};
 ghost use Rattle.ls_record.specs.Edits.{changed as edited, MayChange};
 ghost use Rattle.ls_record.specs.Rows.{Rec, IsRecord};
@@ -38,7 +38,6 @@ pub fn users_are_readied_to_be_armed()
         → let staged = after_all w (arming_actions key once content a.users) in
         IsRecord r → Holds w r v → r.armed ≡ None → MayChange r (SetArmed a)
         → AllOpen r v a key once content
-        → Holds staged (edited r (SetArmed a))
-        (record v { arming = Some (record { boot = a.boot; users = a.users }) })
+        → Holds staged (edited r (SetArmed a)) (record v { arming = Some a })
         × NamedAreUntouched staged (edited r (SetArmed a)) }
 {}

@@ -11,7 +11,7 @@ ghost use Rattle.ls_standing.specs.Standing.{Holds, HoldsUser, NamedAreUntouched
 ghost use Rattle.ls_vault.specs.declared.user.User.{User as Users};
 ghost use Rattle.ls_vault.specs.declared.vault.Vault.{Vault as Vaults};
 ghost use Rattle.ls_vault.specs.Users.{changed, with_user, without_user, user_of};
-ghost use Rattle.ls_vault.specs.UserChanges.{arming_without};
+ghost use Rattle.ls_arming.specs.Disarming.{disarmed};
 ghost use Rattle.ls_edits.specs.SoundRows.{IsSoundRow, RowIsUntouched};
 
 /// The rows of a record with a row put are those of the other users, and the row.
@@ -53,7 +53,7 @@ pub fn a_row_is_dropped()
         → IsRecord r → Holds w r v → MayChange r (DropRow user)
         → Holds w (edited r (DropRow user)) (record {
           users = without_user v.users user;
-          arming = arming_without v.arming user;
+          arming = disarmed v.arming user;
         }) }
     ensures untouched { (w : Worlds) (r : Rec) (user : ℕ) → IsRecord r → NamedAreUntouched w r
         → NamedAreUntouched w (edited r (DropRow user)) }

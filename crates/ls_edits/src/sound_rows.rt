@@ -5,7 +5,7 @@ ghost use Rattle.ls_board.specs.declared.world.World.{World as Worlds};
 ghost use Rattle.ls_formats.specs.PartNames.{PartOf};
 ghost use Rattle.ls_naming.specs.Named.{row_files};
 ghost use Rattle.ls_record.specs.declared.edit.Edit.TheVariants.{PutRow};
-ghost use Rattle.ls_record.specs.declared.row.Armed.{Armed as Armings};
+ghost use Rattle.ls_arming.specs.declared.arming.Arming.{Arming as Armings};
 ghost use Rattle.ls_record.specs.declared.row.UserRow.{UserRow};
 ghost use Rattle.ls_record.specs.Edits.{MayChange};
 ghost use Rattle.ls_record.specs.Rows.{Rec, IsRecord, IsRow};

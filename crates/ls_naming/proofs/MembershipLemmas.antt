@@ -11,7 +11,7 @@ use Rattle.ls_formats.specs.declared.part.FilePart.{FilePart}
 use Rattle.ls_formats.specs.declared.part.FilePart.TheVariants.{SpBlob, Pwd, Secdis, Weaver, Metrics, Handle, E0, P1, Resume}
 use Rattle.ls_formats.specs.PartNames.{PartOf}
 use Rattle.ls_record.specs.declared.row.UserRow.{UserRow}
-use Rattle.ls_record.specs.declared.row.Armed.{Armed}
+use Rattle.ls_arming.specs.declared.arming.Arming.{Arming}
 use Rattle.ls_record.specs.Rows.{Rec, has}
 use Rattle.ls_naming.specs.Named.{only_if, is_armed, has_credential, has_secure, user_parts, credential_parts, token_parts, parts_of, token_files, row_files, named_files, NamesFile, row_keys, named_keys, row_enrolled, named_enrolled, NamesKey, NamesEnrolled}
 use Rattle.ls_naming.specs.Membership.{part_number, same_part, same_name, is_user_part, is_credential_part, is_token_part, row_names, has_enrolled, file_is_named, key_is_named, enrolled_is_named}
@@ -126,7 +126,7 @@ factor_three : (u a b c : Bool) → ((u && a) || ((u && b) || (u && c))) ≡ (u 
 factor_three true a b c = refl
 factor_three false a b c = refl
 
-row_test : (weaver : Bool) (armed : Option Armed) (row : UserRow) (name : PartOf)
+row_test : (weaver : Bool) (armed : Option Arming) (row : UserRow) (name : PartOf)
     → has_name (row_files weaver armed row) name
     ≡ (eqb row.user name.user
     && ((eqb 0 name.id && has_part (user_parts armed row) name.part)
@@ -194,7 +194,7 @@ names_decide m n = by (same_name m n) refl
 
 -- ---- parts
 
-user_part_test : (armed : Option Armed) (row : UserRow) (part : FilePart)
+user_part_test : (armed : Option Arming) (row : UserRow) (part : FilePart)
     → has_part (user_parts armed row) part
     ≡ is_user_part armed row part
 user_part_test armed row part =
@@ -220,7 +220,7 @@ token_part_test weaver part =
 
 -- ---- what is answered of a record
 
-names_row : (weaver : Bool) (armed : Option Armed) (row : UserRow) (name : PartOf) → has_name (row_files weaver armed row) name ≡ row_names weaver armed row name
+names_row : (weaver : Bool) (armed : Option Arming) (row : UserRow) (name : PartOf) → has_name (row_files weaver armed row) name ≡ row_names weaver armed row name
 names_row weaver armed row name =
     row_test weaver armed row name
     ∙ (λ i. eqb row.user name.user

@@ -10,7 +10,7 @@ use Rattle.ls_formats.specs.declared.part.FilePart.{FilePart}
 use Rattle.ls_formats.specs.declared.part.FilePart.TheVariants.{Pwd, Secdis, Weaver, Metrics, Handle, E0, P1, Resume}
 use Rattle.ls_formats.specs.PartNames.{PartOf, IsPartOf, is_of_user, part_name_text}
 use Rattle.ls_record.specs.declared.row.UserRow.{UserRow}
-use Rattle.ls_record.specs.declared.row.Armed.{Armed}
+use Rattle.ls_arming.specs.declared.arming.Arming.{Arming}
 use Rattle.ls_record.specs.Rows.{Rec, IsRow, IsRecord, is_odd}
 use Rattle.ls_naming.specs.Named.{only_if, is_armed, has_credential, has_secure, user_parts, credential_parts, token_parts, parts_of, token_files, row_files, named_files, NamesFile, NamesSlot, Files}
 
@@ -61,7 +61,7 @@ module _ (id : ℕ) (some : eqb id 0 ≡ false) where
 abbrev OfUser : FilePart → Type 0
 OfUser p = true ≡ is_of_user p
 
-user_named : (armed : Option Armed) (row : UserRow) → AllByRecursion OfUser (user_parts armed row)
+user_named : (armed : Option Arming) (row : UserRow) → AllByRecursion OfUser (user_parts armed row)
 user_named armed row =
     all_joined OfUser (only_if (has_secure row) (Handle ∷ [])) (only_if row.escrow (E0 ∷ P1 ∷ []) ++ only_if (is_armed armed row.user) (Resume ∷ []))
     (all_only_if OfUser (has_secure row) (Handle ∷ []) (refl, tt))
@@ -74,7 +74,7 @@ user_named armed row =
 odd_some : (t : ℕ) → is_odd t ≡ true → eqb t 0 ≡ false
 odd_some t odd = ne_eqb t 0 (λ e. let bad : false ≡ true = subst (λ (n : ℕ). is_odd n ≡ true) e odd in cc)
 
-row_named : (weaver : Bool) (armed : Option Armed) (row : UserRow) → IsRow row → AllByRecursion IsPartOf (row_files weaver armed row)
+row_named : (weaver : Bool) (armed : Option Arming) (row : UserRow) → IsRow row → AllByRecursion IsPartOf (row_files weaver armed row)
 row_named weaver armed row is =
     let even = and_parts (eqb (row.protector % 2) 0) (not (eqb row.protector 0)) is.protector.0 in
     all_joined IsPartOf (parts_of row.user 0 (user_parts armed row)) (parts_of row.user row.protector (credential_parts weaver row.kind) ++ token_files weaver row)

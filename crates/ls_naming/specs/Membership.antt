@@ -7,7 +7,7 @@ use Rattle.ls_formats.specs.declared.part.FilePart.TheVariants.{SpBlob, Pwd, Sec
 use Rattle.ls_formats.specs.declared.part.FilePart.TheVariants.{Metrics, Handle, E0, P1, Resume}
 use Rattle.ls_formats.specs.PartNames.{PartOf}
 use Rattle.ls_record.specs.declared.row.UserRow.{UserRow}
-use Rattle.ls_record.specs.declared.row.Armed.{Armed}
+use Rattle.ls_arming.specs.declared.arming.Arming.{Arming}
 use Rattle.ls_record.specs.Rows.{Rec, has}
 use Rattle.ls_naming.specs.Named.{is_armed, has_credential, has_secure}
 
@@ -31,7 +31,7 @@ same_name m n = (m.user == n.user) && ((m.id == n.id) && same_part m.part n.part
 
 -- ---- parts
 
-abbrev pub is_user_part : Option Armed → UserRow → FilePart → Bool
+abbrev pub is_user_part : Option Arming → UserRow → FilePart → Bool
 is_user_part armed row part =
     (has_secure row && same_part Handle part)
     || ((row.escrow && (same_part E0 part || same_part P1 part))
@@ -51,13 +51,13 @@ is_token_part weaver part =
 -- ---- rows
 
 -- the row of a file's user names the part with this id
-abbrev pub has_file : Bool → Option Armed → UserRow → ℕ → FilePart → Bool
+abbrev pub has_file : Bool → Option Arming → UserRow → ℕ → FilePart → Bool
 has_file weaver armed row id part =
     ((0 == id) && is_user_part armed row part)
     || (((row.protector == id) && is_credential_part weaver row.kind part)
     || (has row.tokens id && is_token_part weaver part))
 
-abbrev pub row_names : Bool → Option Armed → UserRow → PartOf → Bool
+abbrev pub row_names : Bool → Option Arming → UserRow → PartOf → Bool
 row_names weaver armed row name =
     (row.user == name.user) && has_file weaver armed row name.id name.part
 

@@ -10,7 +10,7 @@ use Rattle.ls_formats.specs.declared.part.FilePart.TheVariants.{Metrics, Handle,
 use Rattle.ls_formats.specs.PartNames.{PartOf, part_name_text}
 use Rattle.ls_formats.specs.Contents.{slot_bytes}
 use Rattle.ls_record.specs.declared.row.UserRow.{UserRow}
-use Rattle.ls_record.specs.declared.row.Armed.{Armed}
+use Rattle.ls_arming.specs.declared.arming.Arming.{Arming}
 use Rattle.ls_record.specs.Rows.{Rec, has}
 
 -- these where the test holds, else none
@@ -18,7 +18,7 @@ abbrev pub only_if : {X : Type 0} → Bool → List X → List X
 only_if b xs = if b then xs else []
 
 -- the user is armed
-abbrev pub is_armed : Option Armed → ℕ → Bool
+abbrev pub is_armed : Option Arming → ℕ → Bool
 is_armed None user = false
 is_armed (Some a) user = has a.users user
 
@@ -36,7 +36,7 @@ has_secure row = not (row.secure == 0)
 -- ---- files
 
 -- the parts of a user
-abbrev pub user_parts : Option Armed → UserRow → List FilePart
+abbrev pub user_parts : Option Arming → UserRow → List FilePart
 user_parts armed row =
     only_if (has_secure row) (Handle ∷ [])
     ++ (only_if row.escrow (E0 ∷ P1 ∷ []) ++ only_if (is_armed armed row.user) (Resume ∷ []))
@@ -61,7 +61,7 @@ abbrev pub token_files : Bool → UserRow → List PartOf
 token_files weaver row = flat_map (λ t. parts_of row.user t (token_parts weaver)) row.tokens
 
 -- the files that a row names: those of the user, of the credential, and of the tokens in order
-abbrev pub row_files : Bool → Option Armed → UserRow → List PartOf
+abbrev pub row_files : Bool → Option Arming → UserRow → List PartOf
 row_files weaver armed row =
     parts_of row.user 0 (user_parts armed row)
     ++ (parts_of row.user row.protector (credential_parts weaver row.kind)

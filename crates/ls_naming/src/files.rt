@@ -6,9 +6,10 @@ ghost use Rattle.ls_record.specs.Rows.{IsRow};
 ghost use Rattle.ls_naming.specs.Named.{only_if, user_parts, credential_parts, token_parts, parts_of, row_files};
 
 use crate::rows::{has_credential, has_secure, is_armed, kept_part};
+use ls_arming::Arming;
 use ls_bytes::{Memory, Rows};
 use ls_formats::{FilePart, PartName};
-use ls_record::{Armed, UserRow};
+use ls_record::UserRow;
 use std::alloc::Global;
 
 /// Names of files, in order.
@@ -33,7 +34,11 @@ fn add_if(
 }
 
 /// Adds the files of a user itself.
-fn add_user_files(names: &mut PartNames, armed: &Option<Armed>, row: &UserRow) -> Result<(), Memory>
+fn add_user_files(
+    names: &mut PartNames,
+    armed: &Option<Arming>,
+    row: &UserRow,
+) -> Result<(), Memory>
     ensures added { OnOk result (names.new
         ≡ names.old ++ parts_of row.now.user 0 (user_parts armed.now row.now)) }
 {
@@ -95,7 +100,7 @@ fn add_all_token_files(
 pub fn row_files(
     alloc: Global,
     weaver: bool,
-    armed: &Option<Armed>,
+    armed: &Option<Arming>,
     row: &UserRow,
 ) -> Result<PartNames, Memory>
     requires { IsRow row.now }

@@ -8,9 +8,10 @@ ghost use Rattle.ls_naming.specs.Membership.{is_token_part, has_file, row_names,
 ghost use Rattle.ls_naming.specs.Membership.{file_is_named, key_is_named, enrolled_is_named};
 
 use crate::rows::{has_credential, has_secure, is_armed, kept_part};
+use ls_arming::Arming;
 use ls_credential::Kind;
 use ls_formats::{FilePart, PartName};
-use ls_record::{Armed, Record, UserRow};
+use ls_record::{Record, UserRow};
 
 fn has(ids: &[u64], id: u64) -> bool
     ensures same { result ≡ has ids.now id }
@@ -42,7 +43,7 @@ fn same_part(a: FilePart, b: FilePart) -> bool
     part_number(a) == part_number(b)
 }
 
-fn is_user_part(armed: &Option<Armed>, row: &UserRow, part: FilePart) -> bool
+fn is_user_part(armed: &Option<Arming>, row: &UserRow, part: FilePart) -> bool
     ensures same { result ≡ is_user_part armed.now row.now part }
 {
     (has_secure(row) && same_part(FilePart::Handle, part))
@@ -69,7 +70,7 @@ fn is_token_part(weaver: bool, part: FilePart) -> bool
 // ---- rows
 
 /// Whether the row of a file's user names the part with this id.
-fn has_file(weaver: bool, armed: &Option<Armed>, row: &UserRow, id: u64, part: FilePart) -> bool
+fn has_file(weaver: bool, armed: &Option<Arming>, row: &UserRow, id: u64, part: FilePart) -> bool
     ensures same { result ≡ has_file weaver armed.now row.now id part }
 {
     (0 == id && is_user_part(armed, row, part))
@@ -77,7 +78,7 @@ fn has_file(weaver: bool, armed: &Option<Armed>, row: &UserRow, id: u64, part: F
             || (has(row.tokens.as_slice(), id) && is_token_part(weaver, part)))
 }
 
-fn row_names(weaver: bool, armed: &Option<Armed>, row: &UserRow, name: &PartName) -> bool
+fn row_names(weaver: bool, armed: &Option<Arming>, row: &UserRow, name: &PartName) -> bool
     ensures same { result ≡ row_names weaver armed.now row.now name.now }
 {
     row.user == name.user && has_file(weaver, armed, row, name.id, name.part)
@@ -116,7 +117,7 @@ fn some_row_has_key(rows: &[UserRow], alias: u64) -> bool
 }
 
 /// Whether it is the alias of the key of an arming, and there is one.
-fn is_key_of_arming(armed: &Option<Armed>, alias: u64) -> bool
+fn is_key_of_arming(armed: &Option<Arming>, alias: u64) -> bool
     ensures same { result ≡ (is_some armed.now && (0 == alias)) }
 {
     armed.is_some() && 0 == alias

@@ -5,9 +5,10 @@ ghost use Rattle.ls_formats.specs.declared.part.FilePart.TheVariants.{Weaver, Se
 ghost use Rattle.ls_record.specs.Rows.{has};
 ghost use Rattle.ls_naming.specs.Named.{is_armed, has_credential, has_secure};
 
+use ls_arming::Arming;
 use ls_credential::Kind;
 use ls_formats::FilePart;
-use ls_record::{Armed, UserRow};
+use ls_record::UserRow;
 
 fn has_user(users: &[u32], user: u32) -> bool
     ensures same { result ≡ has users.now user }
@@ -16,7 +17,7 @@ fn has_user(users: &[u32], user: u32) -> bool
 }
 
 /// Whether there is an arming, and the user is one of its users.
-pub fn is_armed(armed: &Option<Armed>, user: u32) -> bool
+pub fn is_armed(armed: &Option<Arming>, user: u32) -> bool
     ensures same { result ≡ is_armed armed.now user }
 {
     match armed {

@@ -4,7 +4,7 @@ use Rattle.std.proofs.lemmas.List.Recursion.{is_count_by}
 use Rattle.std.specs.Prelude.{◌==◌, nat_lt, length, count_by, bytes_eq}
 use Rattle.std.specs.List.{list_any}
 use Rattle.ls_promises.proofs.Along.{or_left, or_right}
-use Rattle.ls_promises.proofs.Steps.{cond_both, at_committed_if}
+use Rattle.ls_promises.proofs.Steps.{cond_both, arming_both, at_committed_if}
 use Rattle.ls_promises.specs.Answers.{arms, resumes}
 use Rattle.ls_script.specs.declared.command.Command.{Command}
 use Rattle.ls_script.specs.declared.command.Command.TheVariants as command
@@ -18,12 +18,13 @@ use Rattle.ls_vault.specs.States.{on_user}
 use Rattle.ls_vault.specs.Step.{unless, step}
 use Rattle.ls_vault.specs.Tokens.{is_active}
 use Rattle.ls_vault.specs.Unlocking.{attempted, token_attempted}
-use Rattle.ls_vault.specs.UserChanges.{arming_without}
-use Rattle.ls_vault.specs.Users.{without_number, user_of}
+use Rattle.ls_arming.specs.Disarming.{disarmed}
+use Rattle.ls_vault.specs.Users.{user_of}
+use Rattle.ls_arming.specs.Numbers.{without_number}
 use Rattle.ls_vault.specs.declared.state.Outcome.{Outcome}
 use Rattle.ls_vault.specs.declared.state.State.{State}
 use Rattle.ls_vault.specs.declared.user.User.{User}
-use Rattle.ls_vault.specs.declared.vault.Arming.{Arming}
+use Rattle.ls_arming.specs.declared.arming.Arming.{Arming}
 
 -- how often the arming can still open
 abbrev pub left : Option Arming → ℕ
@@ -51,9 +52,9 @@ at_unarmed None s is = cond_both None_armed (length s.books.dead == 0) _ _ none 
     none = ap left (sym is)
 at_unarmed (Some arming) s is = cond_both (λ (t : State). left t.vault.arming ≡ 0) (is_worn s) _ _ refl refl
 
-at_dropped : (o : Option Arming) (user : ℕ) → left (arming_without o user) ≤ left o
+at_dropped : (o : Option Arming) (user : ℕ) → left (disarmed o user) ≤ left o
 at_dropped None user = omega arith
-at_dropped (Some arming) user = cond_both (λ (o : Option Arming). left o ≤ 1) (length (without_number arming.users user) == 0) _ _ (omega arith) (omega arith)
+at_dropped (Some arming) user = arming_both (λ (o : Option Arming). left o ≤ 1) arming.boot (without_number arming.users user) (omega arith) (omega arith)
 
 at_taken : (s : State) (users : List ℕ) → left (taken s users).vault.arming ≡ 0
 at_taken s users = cond_both (λ (t : State). left t.vault.arming ≡ 0) (is_worn s) _ _ refl refl

@@ -1,11 +1,11 @@
 -- Who is armed was captured, and who is captured was unlocked.
-use Rattle.std.proofs.Common.{◌≡◌, ℕ, Bool, true, false, not, List, [], Option, None, Some, length, refl, ◌∙◌, ap}
-use Rattle.std.specs.Prelude.{◌==◌, ◌||◌, nat_lt, bytes_eq}
+use Rattle.std.proofs.Common.{◌≡◌, ℕ, Bool, true, false, not, List, [], Option, None, Some, refl, ◌∙◌, ap}
+use Rattle.std.specs.Prelude.{◌||◌, nat_lt, bytes_eq}
 use Rattle.std.specs.List.{list_any}
 use Rattle.ls_promises.proofs.Along.{along}
 use Rattle.ls_promises.proofs.EndingLemmas.{none_unarmed, same_unarmed}
 use Rattle.ls_promises.proofs.OpeningLemmas.{none_without, opened_by, armed_opened}
-use Rattle.ls_promises.proofs.Steps.{cond_both, at_unless, at_user, at_committed_if}
+use Rattle.ls_promises.proofs.Steps.{cond_both, arming_both, at_unless, at_user, at_committed_if}
 use Rattle.ls_promises.specs.Answers.{arms, unlocks, resumes}
 use Rattle.ls_promises.specs.Soundness.{armed_numbers}
 use Rattle.ls_script.specs.declared.command.Command.{Command}
@@ -20,11 +20,12 @@ use Rattle.ls_vault.specs.Refusals.{refusal, differs}
 use Rattle.ls_vault.specs.Step.{unless, step}
 use Rattle.ls_vault.specs.Tokens.{is_active}
 use Rattle.ls_vault.specs.Unlocking.{attempted, token_attempted}
-use Rattle.ls_vault.specs.UserChanges.{arming_without}
-use Rattle.ls_vault.specs.Users.{contains, without_number, user_of}
+use Rattle.ls_arming.specs.Disarming.{disarmed}
+use Rattle.ls_vault.specs.Users.{user_of}
+use Rattle.ls_arming.specs.Numbers.{contains, without_number}
 use Rattle.ls_vault.specs.declared.state.Outcome.{Outcome}
 use Rattle.ls_vault.specs.declared.state.State.{State}
-use Rattle.ls_vault.specs.declared.vault.Arming.{Arming}
+use Rattle.ls_arming.specs.declared.arming.Arming.{Arming}
 
 -- ---- who is armed
 
@@ -35,10 +36,10 @@ module _ (slots : ℕ) (s : State) (moment : ℕ) (drawn : List ℕ) (n : ℕ) w
   abbrev Free : State → Type 0
   Free t = contains t.session.captured n ≡ false
 
-  unarmed_without : (o : Option Arming) (user : ℕ) → contains (armed_numbers o) n ≡ false → contains (armed_numbers (arming_without o user)) n ≡ false
+  unarmed_without : (o : Option Arming) (user : ℕ) → contains (armed_numbers o) n ≡ false → contains (armed_numbers (disarmed o user)) n ≡ false
   unarmed_without None user p = refl
   unarmed_without (Some a) user p =
-      cond_both (λ (o : Option Arming). contains (armed_numbers o) n ≡ false) (length (without_number a.users user) == 0) None _ refl (none_without a.users user n p)
+      arming_both (λ (o : Option Arming). contains (armed_numbers o) n ≡ false) a.boot (without_number a.users user) refl (none_without a.users user n p)
 
   nobody : (o : Option Arming) → o ≡ None → contains (armed_numbers o) n ≡ false
   nobody None is = refl

@@ -26,13 +26,14 @@ use Rattle.ls_vault.specs.TokenChanges.{with_tokens, first_activated, without_it
 use Rattle.ls_vault.specs.Tokens.{pending_of_others, without_pending, without_first, is_active}
 use Rattle.ls_vault.specs.Unlocking.{cleared, failed, attempted, token_attempted}
 use Rattle.ls_vault.specs.UserChanges.{new_user}
-use Rattle.ls_vault.specs.Users.{contains, user_of, is_user, changed, with_user, without_user}
+use Rattle.ls_vault.specs.Users.{user_of, is_user, changed, with_user, without_user}
+use Rattle.ls_arming.specs.Numbers.{contains}
 use Rattle.ls_vault.specs.declared.state.Outcome.{Outcome}
 use Rattle.ls_vault.specs.declared.state.State.{State}
 use Rattle.ls_vault.specs.declared.token.PendingToken.{PendingToken}
 use Rattle.ls_vault.specs.declared.token.Token.{Token}
 use Rattle.ls_vault.specs.declared.user.User.{User}
-use Rattle.ls_vault.specs.declared.vault.Arming.{Arming}
+use Rattle.ls_arming.specs.declared.arming.Arming.{Arming}
 use Rattle.ls_vault.specs.declared.vault.Books.{Books}
 
 -- ---- secure ids

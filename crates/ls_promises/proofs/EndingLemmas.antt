@@ -15,7 +15,7 @@ use Rattle.ls_vault.specs.States.{with_arming, with_dead, committed, refused}
 use Rattle.ls_vault.specs.Step.{unless, step}
 use Rattle.ls_vault.specs.declared.state.Outcome.{Outcome}
 use Rattle.ls_vault.specs.declared.state.State.{State}
-use Rattle.ls_vault.specs.declared.vault.Arming.{Arming}
+use Rattle.ls_arming.specs.declared.arming.Arming.{Arming}
 use Rattle.ls_vault.specs.declared.vault.Books.{Books}
 
 -- ---- boots

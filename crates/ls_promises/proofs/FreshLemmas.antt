@@ -4,24 +4,11 @@ use Rattle.std.specs.Prelude.{◌||◌}
 use Rattle.ls_promises.proofs.Lookups.{eqb_is, not_eqb}
 use Rattle.ls_promises.specs.FreshNumbers.{step_from, IsFirstFree}
 use Rattle.ls_vault.specs.Fresh.{odd, first_free, fresh}
-use Rattle.ls_vault.specs.Users.{contains, without_number}
+use Rattle.ls_vault.proofs.FreshLemmas.{free_here, free_step, free_last}
+use Rattle.ls_arming.specs.Numbers.{contains, without_number}
 
 abbrev next : ℕ → ℕ
 next d = (d + 2) % 2 ^ 64
-
--- one step
-free_here : (k d : ℕ) (taken : List ℕ) → contains taken d ≡ false → first_free k d taken ≡ d
-unfolding first_free
-free_here zero d taken is = refl
-free_here (suc k) d taken is = ap (λ b. cond b (first_free k (next d) taken) d) is
-
-free_step : (k d : ℕ) (taken : List ℕ) → contains taken d ≡ true → first_free (suc k) d taken ≡ first_free k (next d) taken
-unfolding first_free
-free_step k d taken is = ap (λ b. cond b (first_free k (next d) taken) d) is
-
-free_end : (d : ℕ) (taken : List ℕ) → first_free zero d taken ≡ d
-unfolding first_free
-free_end d taken = refl
 
 -- ---- numbers modulo 2^64
 
@@ -74,7 +61,7 @@ one_less (n ∷ ns) d is = by_number (eqb n d) is (shorter ns d) (λ rest. one_l
 
 -- a search that doesn't lead back to d doesn't ask whether d is taken
 same_free : (k m d : ℕ) (taken : List ℕ) → 0 < m → m + k ≤ 2 ^ 63 → first_free k (step_from d m) taken ≡ first_free k (step_from d m) (without_number taken d)
-same_free zero m d taken some few = free_end (step_from d m) taken ∙ sym (free_end (step_from d m) (without_number taken d))
+same_free zero m d taken some few = free_last 0 (step_from d m) taken refl ∙ sym (free_last 0 (step_from d m) (without_number taken d) refl)
 same_free (suc k) m d taken some few =
     let less : m < 2 ^ 63 = omega (arith, few) in
     by_test (contains taken (step_from d m)) refl (other_contained taken d (step_from d m) (not_back d m some less))
@@ -84,11 +71,11 @@ same_free (suc k) m d taken some few =
         → first_free k (step_from d (m + 1)) taken ≡ first_free k (step_from d (m + 1)) (without_number taken d)
         → first_free (suc k) (step_from d m) taken ≡ first_free (suc k) (step_from d m) (without_number taken d)
     by_test true is same rest =
-        free_step k (step_from d m) taken is
+        free_step (suc k) k (step_from d m) taken refl is
         ∙ (ap (λ e. first_free k e taken) (next_step d m)
         ∙ (rest
         ∙ (sym (ap (λ e. first_free k e (without_number taken d)) (next_step d m))
-        ∙ sym (free_step k (step_from d m) (without_number taken d) (same ∙ is)))))
+        ∙ sym (free_step (suc k) k (step_from d m) (without_number taken d) refl (same ∙ is)))))
     by_test false is same rest = free_here (suc k) (step_from d m) taken is ∙ sym (free_here (suc k) (step_from d m) (without_number taken d) (same ∙ is))
 
 -- how far it goes
@@ -99,7 +86,7 @@ pub record Goes (k d : ℕ) (taken : List ℕ) : Type 0 where
   pub before : (j : ℕ) → j < steps → contains taken (step_from d j) ≡ true
 
 goes : (k d : ℕ) (taken : List ℕ) → d < 2 ^ 64 → Goes k d taken
-goes zero d taken small = record { steps = 0; few = omega arith; reached = free_end d taken ∙ sym (from_start d small); before = λ j less. absurd (omega (arith, less)) }
+goes zero d taken small = record { steps = 0; few = omega arith; reached = free_last 0 d taken refl ∙ sym (from_start d small); before = λ j less. absurd (omega (arith, less)) }
 goes (suc k) d taken small = by_test (contains taken d) refl (goes k (next d) taken (next_small d))
   where
     earlier : (h : Goes k (next d) taken) → contains taken d ≡ true → (j : ℕ) → j < h.steps + 1 → contains taken (step_from d j) ≡ true
@@ -112,7 +99,7 @@ goes (suc k) d taken small = by_test (contains taken d) refl (goes k (next d) ta
     by_test true is h = record {
       steps = h.steps + 1;
       few = omega (arith, h.few);
-      reached = free_step k d taken is ∙ (h.reached ∙ step_next d h.steps);
+      reached = free_step (suc k) k d taken refl is ∙ (h.reached ∙ step_next d h.steps);
       before = earlier h is;
     }
     by_test false is h = record {
@@ -140,7 +127,7 @@ found_free (suc k) d taken all few = by_test (contains taken d) refl (λ less. f
         let way = goes k (next d) (without_number taken d) (next_small d) in
         let other : first_free k (next d) (without_number taken d) ≢ d =
         λ back. not_back d (way.steps + 1) (omega arith) (omega (arith, way.few, few)) (sym (step_next d way.steps) ∙ (sym way.reached ∙ back)) in
-        ap (contains taken) (free_step k d taken is ∙ same)
+        ap (contains taken) (free_step (suc k) k d taken refl is ∙ same)
         ∙ (sym (other_contained taken d (first_free k (next d) (without_number taken d)) other) ∙ rest (omega (arith, less, all)))
 
 odd_small : (d : ℕ) → d < 2 ^ 64 → odd d < 2 ^ 64

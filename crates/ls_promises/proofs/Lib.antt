@@ -1,5 +1,6 @@
 pub mod ActivationLemmas
 pub mod Along
+pub mod AnswerLineLemmas
 pub mod ArmingLemmas
 pub mod CapturedLemmas
 pub mod ConsistentLemmas
@@ -15,7 +16,6 @@ pub mod Lookups
 pub mod OpeningLemmas
 pub mod OpenedLemmas
 pub mod OrderLemmas
-pub mod PartingLemmas
 pub mod PendingSteps
 pub mod PinLengthLemmas
 pub mod RefusalLemmas

@@ -6,7 +6,8 @@ use Rattle.std.specs.List.{AllByRecursion}
 use Rattle.ls_promises.proofs.Lookups.{eqb_is, eqb_differs, not_eqb}
 use Rattle.ls_promises.specs.Soundness.{IsAscending}
 use Rattle.ls_vault.specs.Tokens.{pending_of, without_first, activated}
-use Rattle.ls_vault.specs.Users.{contains, with_number, with_numbers, without_number, user_of, changed, with_user, without_user}
+use Rattle.ls_vault.specs.Users.{user_of, changed, with_user, without_user}
+use Rattle.ls_arming.specs.Numbers.{contains, with_number, with_numbers, without_number}
 use Rattle.ls_vault.specs.declared.token.PendingToken.{PendingToken}
 use Rattle.ls_vault.specs.declared.token.Token.{Token}
 use Rattle.ls_vault.specs.declared.user.User.{User}

@@ -24,7 +24,7 @@ use Rattle.ls_vault.specs.Script.{Stage, Carried, put_first, entry_of, stage_aft
 
 -- ---- lines
 
-abbrev replies_of : Carried → List Reply
+abbrev pub replies_of : Carried → List Reply
 replies_of done = map (λ e. e.reply) done.entries
 
 or_some : (o : Option Reply) (r : Reply) → is_some (refusal_or o (Some r)) ≡ true

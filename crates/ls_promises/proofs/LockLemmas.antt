@@ -11,7 +11,8 @@ use Rattle.ls_vault.specs.Refusals.{refusal, of_user}
 use Rattle.ls_vault.specs.States.{fine}
 use Rattle.ls_vault.specs.Step.{unless, step}
 use Rattle.ls_vault.specs.Unlocking.{locked}
-use Rattle.ls_vault.specs.Users.{contains, without_number, user_of, is_user}
+use Rattle.ls_vault.specs.Users.{user_of, is_user}
+use Rattle.ls_arming.specs.Numbers.{contains, without_number}
 use Rattle.ls_vault.specs.declared.state.Outcome.{Outcome}
 use Rattle.ls_vault.specs.declared.state.State.{State}
 use Rattle.ls_vault.specs.declared.user.User.{User}

@@ -18,11 +18,12 @@ use Rattle.ls_vault.specs.Refusals.{refusal}
 use Rattle.ls_vault.specs.States.{refused, on_user}
 use Rattle.ls_vault.specs.Step.{unless, step}
 use Rattle.ls_vault.specs.Unlocking.{cleared, attempted, token_attempted}
-use Rattle.ls_vault.specs.Users.{contains, with_number, with_numbers, user_of}
+use Rattle.ls_vault.specs.Users.{user_of}
+use Rattle.ls_arming.specs.Numbers.{contains, with_number, with_numbers}
 use Rattle.ls_vault.specs.declared.state.Outcome.{Outcome}
 use Rattle.ls_vault.specs.declared.state.State.{State}
 use Rattle.ls_vault.specs.declared.user.User.{User}
-use Rattle.ls_vault.specs.declared.vault.Arming.{Arming}
+use Rattle.ls_arming.specs.declared.arming.Arming.{Arming}
 
 -- ---- numbers
 

@@ -20,12 +20,13 @@ use Rattle.ls_vault.specs.States.{on_user}
 use Rattle.ls_vault.specs.Step.{unless, step}
 use Rattle.ls_vault.specs.TokenChanges.{first_activated}
 use Rattle.ls_vault.specs.Tokens.{is_active}
-use Rattle.ls_vault.specs.Users.{contains, with_number, with_numbers, without_number, user_of}
+use Rattle.ls_vault.specs.Users.{user_of}
+use Rattle.ls_arming.specs.Numbers.{contains, with_number, with_numbers, without_number}
 use Rattle.ls_vault.specs.declared.session.SessionState.{SessionState}
 use Rattle.ls_vault.specs.declared.state.Outcome.{Outcome}
 use Rattle.ls_vault.specs.declared.state.State.{State}
 use Rattle.ls_vault.specs.declared.user.User.{User}
-use Rattle.ls_vault.specs.declared.vault.Arming.{Arming}
+use Rattle.ls_arming.specs.declared.arming.Arming.{Arming}
 
 -- ---- numbers that are none of a list
 

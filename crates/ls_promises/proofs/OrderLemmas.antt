@@ -4,7 +4,7 @@ use Rattle.std.proofs.lemmas.Bool.Decides.{nat_tests}
 use Rattle.std.specs.Prelude.{◌==◌, nat_lt, bytes_eq, filter}
 use Rattle.std.specs.List.{AllByRecursion}
 use Rattle.ls_promises.proofs.LimitLemmas.{all_less}
-use Rattle.ls_promises.proofs.Steps.{cond_both, at_unless, at_user, at_committed_if}
+use Rattle.ls_promises.proofs.Steps.{cond_both, arming_both, at_unless, at_user, at_committed_if}
 use Rattle.ls_promises.specs.Soundness.{IsAscending, IsOrdered, armed_numbers}
 use Rattle.ls_script.specs.declared.command.Command.{Command}
 use Rattle.ls_script.specs.declared.command.Command.TheVariants as command
@@ -18,11 +18,12 @@ use Rattle.ls_vault.specs.Step.{step, restart}
 use Rattle.ls_vault.specs.TokenChanges.{first_activated}
 use Rattle.ls_vault.specs.Tokens.{is_active}
 use Rattle.ls_vault.specs.Unlocking.{opened, cleared, attempted, token_attempted}
-use Rattle.ls_vault.specs.UserChanges.{arming_without}
-use Rattle.ls_vault.specs.Users.{with_number, with_numbers, without_number, user_of, changed}
+use Rattle.ls_arming.specs.Disarming.{disarmed}
+use Rattle.ls_vault.specs.Users.{user_of, changed}
+use Rattle.ls_arming.specs.Numbers.{with_number, with_numbers, without_number}
 use Rattle.ls_vault.specs.declared.state.Outcome.{Outcome}
 use Rattle.ls_vault.specs.declared.state.State.{State}
-use Rattle.ls_vault.specs.declared.vault.Arming.{Arming}
+use Rattle.ls_arming.specs.declared.arming.Arming.{Arming}
 
 -- ---- one number more, or less
 
@@ -71,10 +72,10 @@ order_left q (x ∷ ns) asc = by_test (q x) (order_left q ns asc.1)
 order_without : (ns : List ℕ) (n : ℕ) → IsAscending ns → IsAscending (without_number ns n)
 order_without ns n asc = order_left (λ m. not (m == n)) ns asc
 
-order_disarmed : (o : Option Arming) (user : ℕ) → IsAscending (armed_numbers o) → IsAscending (armed_numbers (arming_without o user))
+order_disarmed : (o : Option Arming) (user : ℕ) → IsAscending (armed_numbers o) → IsAscending (armed_numbers (disarmed o user))
 order_disarmed None user asc = tt
 order_disarmed (Some arming) user asc =
-    cond_both (λ (o : Option Arming). IsAscending (armed_numbers o)) (length (without_number arming.users user) == 0) None _ tt (order_without arming.users user asc)
+    arming_both (λ (o : Option Arming). IsAscending (armed_numbers o)) arming.boot (without_number arming.users user) tt (order_without arming.users user asc)
 
 -- ---- parts of a state
 

@@ -16,7 +16,7 @@ use Rattle.ls_vault.specs.Users.{user_of}
 use Rattle.ls_vault.specs.declared.state.Outcome.{Outcome}
 use Rattle.ls_vault.specs.declared.state.State.{State}
 use Rattle.ls_vault.specs.declared.token.PendingToken.{PendingToken}
-use Rattle.ls_vault.specs.declared.vault.Arming.{Arming}
+use Rattle.ls_arming.specs.declared.arming.Arming.{Arming}
 
 module _ (P : List PendingToken → Type 0) where
   abbrev Of : State → Type 0

@@ -16,7 +16,7 @@ use Rattle.ls_vault.specs.Users.{user_of}
 use Rattle.ls_vault.specs.declared.state.Outcome.{Outcome}
 use Rattle.ls_vault.specs.declared.state.State.{State}
 use Rattle.ls_vault.specs.declared.user.User.{User}
-use Rattle.ls_vault.specs.declared.vault.Arming.{Arming}
+use Rattle.ls_arming.specs.declared.arming.Arming.{Arming}
 
 module _ (slots : ℕ) (s : State) (moment : ℕ) (drawn : List ℕ) where
   -- refused, it has the state

@@ -21,11 +21,12 @@ use Rattle.ls_vault.specs.Refusals.{refusal}
 use Rattle.ls_vault.specs.Revealed.{revealed, all_revealed}
 use Rattle.ls_vault.specs.States.{on_user}
 use Rattle.ls_vault.specs.Step.{unless, step}
-use Rattle.ls_vault.specs.Users.{contains, without_number, user_of, is_user}
+use Rattle.ls_vault.specs.Users.{user_of, is_user}
+use Rattle.ls_arming.specs.Numbers.{contains, without_number}
 use Rattle.ls_vault.specs.declared.state.Outcome.{Outcome}
 use Rattle.ls_vault.specs.declared.state.State.{State}
 use Rattle.ls_vault.specs.declared.user.User.{User}
-use Rattle.ls_vault.specs.declared.vault.Arming.{Arming}
+use Rattle.ls_arming.specs.declared.arming.Arming.{Arming}
 
 -- ---- ascending numbers that are among others are no more than these
 
@@ -72,7 +73,7 @@ module _ (P : Reply → Type 0) where
   reply_unless None s o q p = p
   reply_unless (Some why) s o q p = q why refl
 
-  reply_user : (o : Option User) (s : State) (act : User → Outcome) → P (No NoUser) → ((u : User) → P (act u).reply) → P (on_user o s act).reply
+  pub reply_user : (o : Option User) (s : State) (act : User → Outcome) → P (No NoUser) → ((u : User) → P (act u).reply) → P (on_user o s act).reply
   reply_user None s act q p = q
   reply_user (Some u) s act q p = p u
 

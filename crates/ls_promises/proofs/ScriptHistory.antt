@@ -2,6 +2,7 @@
 use Rattle.std.proofs.Common.{◌≡◌, ◌++◌, ℕ, zero, suc, Bool, true, false, cond, List, [], ◌∷◌, Option, Some, length, take, refl, sym, ◌∙◌, ap, subst}
 use Rattle.std.specs.Prelude.{map, flat_map, Result, Ok, Err}
 use Rattle.ls_grammar.specs.declared.fault.LineFault.{LineFault}
+use Rattle.ls_lines.specs.Lines.{lines_of}
 use Rattle.ls_script.specs.Commands.{is_refusal}
 use Rattle.ls_script.specs.ScriptReading.{reading_of}
 use Rattle.ls_script.specs.declared.command.Command.{Command}
@@ -9,7 +10,7 @@ use Rattle.ls_script.specs.declared.reply.Reply.{Reply}
 use Rattle.ls_script.specs.declared.script_line.ScriptLine.{ScriptLine}
 use Rattle.ls_vault.proofs.ScriptLemmas.{after_served}
 use Rattle.ls_vault.specs.Histories.{history, state_after}
-use Rattle.ls_vault.specs.Script.{Stage, Entry, entry_of, stage_after, carried, commands_of, served_as, served_text, told_lines, begun, lines_of, told, after, event_of}
+use Rattle.ls_vault.specs.Script.{Stage, Entry, entry_of, stage_after, carried, commands_of, served_as, served_text, told_lines, begun, told, after, event_of}
 use Rattle.ls_vault.specs.Step.{step}
 use Rattle.ls_vault.specs.declared.state.State.{State}
 

@@ -20,12 +20,12 @@ use Rattle.ls_vault.specs.Step.{step, restart}
 use Rattle.ls_vault.specs.TokenChanges.{first_activated}
 use Rattle.ls_vault.specs.Tokens.{pending_of, is_active, is_pending}
 use Rattle.ls_vault.specs.Unlocking.{attempted, token_attempted}
-use Rattle.ls_vault.specs.UserChanges.{arming_without}
+use Rattle.ls_arming.specs.Disarming.{disarmed}
 use Rattle.ls_vault.specs.Users.{user_of, is_user}
 use Rattle.ls_vault.specs.declared.state.Outcome.{Outcome}
 use Rattle.ls_vault.specs.declared.state.State.{State}
 use Rattle.ls_vault.specs.declared.user.User.{User}
-use Rattle.ls_vault.specs.declared.vault.Arming.{Arming}
+use Rattle.ls_arming.specs.declared.arming.Arming.{Arming}
 use Rattle.ls_vault.specs.declared.vault.Books.{Books}
 
 no_arming : (o : Option Arming) (a : Arming) → o ≡ None → o ≡ Some a → ⊥
@@ -41,7 +41,7 @@ fresh_of : (s : State) → worn_refusal s ≡ None → is_worn s ≡ false
 fresh_of s is = let h = passed (is_worn s) Worn None is in h.0
 
 -- an arming without a user was one
-was_armed : (o : Option Arming) (user : ℕ) (a : Arming) → arming_without o user ≡ Some a → (b : Arming) × (o ≡ Some b)
+was_armed : (o : Option Arming) (user : ℕ) (a : Arming) → disarmed o user ≡ Some a → (b : Arming) × (o ≡ Some b)
 was_armed None user a is = absurd (cc)
 was_armed (Some b) user a is = (b, refl)
 
@@ -89,7 +89,7 @@ module _ (slots : ℕ) (s : State) (moment : ℕ) (drawn : List ℕ) (was : IsSe
   settled_dropped : (user : ℕ) → is_worn s ≡ false → IsSettled (effect slots s (command.Drop user) moment drawn).state
   settled_dropped user unworn = record {
     never_both = λ a there. let h = was_armed s.vault.arming user a there in ap (λ (ns : List ℕ). filter (λ m. not (m == user)) ns) (was.never_both h.0 h.1);
-    unarmed = λ is. ap (λ (o : Option Arming). arming_without o user) (was.unarmed is);
+    unarmed = λ is. ap (λ (o : Option Arming). disarmed o user) (was.unarmed is);
     spent = λ is. inl (ap (λ (ns : List ℕ). filter (λ m. not (m == user)) ns) (none_dead unworn is));
   }
 

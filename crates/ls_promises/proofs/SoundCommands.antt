@@ -8,7 +8,7 @@ use Rattle.ls_promises.proofs.LimitLemmas.{waiting, each_with, each_with_all, wi
 use Rattle.ls_promises.proofs.Lookups.{eqb_is}
 use Rattle.ls_promises.proofs.SoundParts.{taken as places, AreSound, few_ids, used_is, from_parts, to_parts, missing, are_users_kept, user_kept, secure_kept, sound_kept}
 use Rattle.ls_promises.proofs.SoundSteps.{are_users_with, sound_with, without_other, sound_without, secure_given, sound_token_add, sound_activate, sound_fewer}
-use Rattle.ls_promises.proofs.Steps.{cond_both, with_auto, at_unless, at_user, at_committed_if}
+use Rattle.ls_promises.proofs.Steps.{cond_both, arming_both, with_auto, at_unless, at_user, at_committed_if}
 use Rattle.ls_promises.specs.Soundness.{AreUsers, IsSound, armed_numbers}
 use Rattle.ls_script.specs.declared.command.Command.{Command}
 use Rattle.ls_script.specs.declared.command.Command.TheVariants as command
@@ -26,13 +26,15 @@ use Rattle.ls_vault.specs.Step.{unless, step, restart}
 use Rattle.ls_vault.specs.TokenChanges.{with_tokens, first_activated, without_its, plain}
 use Rattle.ls_vault.specs.Tokens.{pending_of_others, without_pending, is_active, token_ids}
 use Rattle.ls_vault.specs.Unlocking.{opened, cleared, failed, attempted, token_attempted}
-use Rattle.ls_vault.specs.UserChanges.{new_user, arming_without}
-use Rattle.ls_vault.specs.Users.{contains, with_number, without_number, user_of, is_user, changed, with_user, without_user}
+use Rattle.ls_vault.specs.UserChanges.{new_user}
+use Rattle.ls_arming.specs.Disarming.{disarmed}
+use Rattle.ls_vault.specs.Users.{user_of, is_user, changed, with_user, without_user}
+use Rattle.ls_arming.specs.Numbers.{contains, with_number, without_number}
 use Rattle.ls_vault.specs.declared.state.Outcome.{Outcome}
 use Rattle.ls_vault.specs.declared.state.State.{State}
 use Rattle.ls_vault.specs.declared.token.PendingToken.{PendingToken}
 use Rattle.ls_vault.specs.declared.user.User.{User}
-use Rattle.ls_vault.specs.declared.vault.Arming.{Arming}
+use Rattle.ls_arming.specs.declared.arming.Arming.{Arming}
 use Rattle.ls_vault.specs.declared.vault.Books.{Books}
 
 -- ---- what an accepted command tells
@@ -142,10 +144,10 @@ module _ (slots : ℕ) where
       without_other users user m (λ same. h.1 (sym same)) ∙ all m h.0
 
   -- an arming without a user
-  armed_without : (users : List User) (o : Option Arming) (user : ℕ) → AreUsers users (armed_numbers o) → AreUsers (without_user users user) (armed_numbers (arming_without o user))
+  armed_without : (users : List User) (o : Option Arming) (user : ℕ) → AreUsers users (armed_numbers o) → AreUsers (without_user users user) (armed_numbers (disarmed o user))
   armed_without users None user all = none_are_users (without_user users user)
   armed_without users (Some arming) user all =
-      cond_both (λ (o : Option Arming). AreUsers (without_user users user) (armed_numbers o)) (length (without_number arming.users user) == 0) None _
+      arming_both (λ (o : Option Arming). AreUsers (without_user users user) (armed_numbers o)) arming.boot (without_number arming.users user)
       (none_are_users (without_user users user)) (left_users users user arming.users all)
 
   -- ---- each command that isn't refused

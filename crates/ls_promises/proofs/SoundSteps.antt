@@ -14,7 +14,8 @@ use Rattle.ls_vault.specs.Fresh.{fresh, drawn_number}
 use Rattle.ls_vault.specs.Kinds.{is_empty}
 use Rattle.ls_vault.specs.TokenChanges.{with_tokens}
 use Rattle.ls_vault.specs.Tokens.{pending_of, pending_of_others, without_first}
-use Rattle.ls_vault.specs.Users.{contains, user_of, is_user, tokens_of, changed, with_user, without_user}
+use Rattle.ls_vault.specs.Users.{user_of, is_user, tokens_of, changed, with_user, without_user}
+use Rattle.ls_arming.specs.Numbers.{contains}
 use Rattle.ls_vault.specs.declared.token.PendingToken.{PendingToken}
 use Rattle.ls_vault.specs.declared.token.Token.{Token}
 use Rattle.ls_vault.specs.declared.user.User.{User}

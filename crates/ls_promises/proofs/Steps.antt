@@ -1,5 +1,5 @@
 -- What a step leaves of the users, case by case.
-use Rattle.std.proofs.Common.{◌≡◌, ℕ, Bool, true, false, cond, List, Option, None, Some, refl}
+use Rattle.std.proofs.Common.{◌≡◌, ℕ, Bool, true, false, cond, List, Option, None, Some, refl, [], ◌∷◌}
 use Rattle.std.specs.Prelude.{◌==◌, nat_lt, length, map, take, bytes_eq}
 use Rattle.ls_script.specs.declared.command.Command.{Command}
 use Rattle.ls_script.specs.declared.command.Command.TheVariants as command
@@ -19,12 +19,18 @@ use Rattle.ls_vault.specs.Users.{user_of, changed, with_user, without_user}
 use Rattle.ls_vault.specs.declared.state.Outcome.{Outcome}
 use Rattle.ls_vault.specs.declared.state.State.{State}
 use Rattle.ls_vault.specs.declared.user.User.{User}
-use Rattle.ls_vault.specs.declared.vault.Arming.{Arming}
+use Rattle.ls_arming.specs.declared.arming.Arming.{Arming}
+use Rattle.ls_arming.specs.Disarming.{arming_of}
 
 -- either of two
 pub cond_both : {A : Type 0} (P : A → Type 0) (b : Bool) (x y : A) → P x → P y → P (cond b x y)
 cond_both P true x y p q = p
 cond_both P false x y p q = q
+
+-- what holds of none, and of an arming of these users, holds of what is armed of them
+pub arming_both : (P : Option Arming → Type 0) (boot : ℕ) (users : List ℕ) → P None → P (Some (record { boot = boot; users = users })) → P (arming_of boot users)
+arming_both P boot [] none some = none
+arming_both P boot (u ∷ users) none some = some
 
 -- the user with this flag
 abbrev pub with_auto : Bool → User → User

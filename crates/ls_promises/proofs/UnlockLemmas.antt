@@ -26,7 +26,7 @@ use Rattle.ls_vault.specs.Users.{user_of, changed}
 use Rattle.ls_vault.specs.declared.state.State.{State}
 use Rattle.ls_vault.specs.declared.token.Token.{Token}
 use Rattle.ls_vault.specs.declared.user.User.{User}
-use Rattle.ls_vault.specs.declared.vault.Arming.{Arming}
+use Rattle.ls_arming.specs.declared.arming.Arming.{Arming}
 use Rattle.ls_weaver.specs.Throttle.{timeout, more_fails}
 
 -- a kind is told by its number

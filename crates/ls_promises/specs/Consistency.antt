@@ -10,7 +10,7 @@ use Rattle.ls_vault.specs.Limits.{last_of_64, token_count}
 use Rattle.ls_vault.specs.Users.{user_of}
 use Rattle.ls_vault.specs.declared.state.State.{State}
 use Rattle.ls_vault.specs.declared.user.User.{User}
-use Rattle.ls_vault.specs.declared.vault.Arming.{Arming}
+use Rattle.ls_arming.specs.declared.arming.Arming.{Arming}
 
 -- What holds of users and of who is captured.
 pub record IsConsistent (s : State) : Type 0 where

@@ -1,6 +1,6 @@
 -- The first number that isn't taken.
 use Rattle.std.specs.Prelude.{◌≡◌, ℕ, ◌+◌, ◌*◌, ◌%◌, ◌^◌, ◌<◌, true, false, List}
-use Rattle.ls_vault.specs.Users.{contains}
+use Rattle.ls_arming.specs.Numbers.{contains}
 
 -- the number that is so many steps of 2 from d on, with 0 after 2^64
 abbrev pub step_from : ℕ → ℕ → ℕ

@@ -3,7 +3,6 @@ pub mod Consistency
 pub mod Counters
 pub mod Credentials
 pub mod FreshNumbers
-pub mod Lines
 pub mod PinLengths
 pub mod Secrets
 pub mod Soundness

@@ -4,10 +4,11 @@ use Rattle.std.specs.Prelude.{count_by, Option, Some, ⊤}
 use Rattle.std.specs.List.{AllByRecursion}
 use Rattle.ls_vault.specs.Limits.{most_users, most_tokens, used, token_count}
 use Rattle.ls_vault.specs.Tokens.{pending_of, token_ids}
-use Rattle.ls_vault.specs.Users.{contains, user_of, is_user}
+use Rattle.ls_vault.specs.Users.{user_of, is_user}
+use Rattle.ls_arming.specs.Numbers.{contains}
 use Rattle.ls_vault.specs.declared.state.State.{State}
 use Rattle.ls_vault.specs.declared.user.User.{User}
-use Rattle.ls_vault.specs.declared.vault.Arming.{Arming}
+use Rattle.ls_arming.specs.declared.arming.Arming.{Arming}
 
 -- each number is smaller than all that stand behind it
 abbrev pub IsAscending : List ℕ → Type 0

@@ -9,7 +9,7 @@ use Rattle.ls_vault.specs.Users.{user_of}
 use Rattle.ls_vault.specs.declared.state.State.{State}
 use Rattle.ls_vault.specs.declared.token.Token.{Token}
 use Rattle.ls_vault.specs.declared.user.User.{User}
-use Rattle.ls_vault.specs.declared.vault.Arming.{Arming}
+use Rattle.ls_arming.specs.declared.arming.Arming.{Arming}
 
 -- The user is there, the offered credential is the present one, nothing throttles, and this is
 -- revealed.

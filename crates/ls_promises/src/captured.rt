@@ -8,7 +8,7 @@ ghost use Rattle.ls_script.specs.declared.command.Command.TheVariants as command
 ghost use Rattle.ls_script.specs.declared.reply.Reply.TheVariants.{Fine};
 ghost use Rattle.ls_vault.specs.Histories.{Event, history, state_after, passes};
 ghost use Rattle.ls_vault.specs.Step.{step, restart};
-ghost use Rattle.ls_vault.specs.Users.{contains};
+ghost use Rattle.ls_arming.specs.Numbers.{contains};
 ghost use Rattle.ls_vault.specs.declared.state.State.{State as States};
 ghost use Rattle.ls_vault.specs.declared.vault.Books.{Books as Kept};
 

@@ -7,7 +7,7 @@ ghost use Rattle.ls_vault.specs.Limits.{last_of_32, last_of_64};
 ghost use Rattle.ls_vault.specs.Revealed.{all_revealed};
 ghost use Rattle.ls_vault.specs.Step.{step};
 ghost use Rattle.ls_vault.specs.declared.state.State.{State as States};
-ghost use Rattle.ls_vault.specs.declared.vault.Arming.{Arming as Armings};
+ghost use Rattle.ls_arming.specs.declared.arming.Arming.{Arming as Armings};
 
 /// A resume takes the arming away, whatever it answers; where that is that the arming expired, the
 /// users and the session are as they were. The arming expired at a boot before its own and at one

@@ -3,7 +3,8 @@ ghost use Rattle.std.specs.Prelude.{◌≡◌, ◌≢◌, ℕ, true, false, List
 ghost use Rattle.ls_script.specs.declared.command.Command.TheVariants as command;
 ghost use Rattle.ls_script.specs.declared.reply.Reply.TheVariants.{Fine};
 ghost use Rattle.ls_vault.specs.Step.{step};
-ghost use Rattle.ls_vault.specs.Users.{contains, is_user};
+ghost use Rattle.ls_vault.specs.Users.{is_user};
+ghost use Rattle.ls_arming.specs.Numbers.{contains};
 ghost use Rattle.ls_vault.specs.declared.state.State.{State as States};
 
 /// A user that is there can always be locked, and is closed then. Who else is opened, who is

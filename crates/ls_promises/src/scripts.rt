@@ -1,9 +1,7 @@
-//! A script is its lines, and what it does is a history.
-ghost use Rattle.std.specs.Prelude.{◌≡◌, ◌++◌, ℕ, List, map, take, Some};
-ghost use Rattle.std.specs.List.{AllByRecursion, flat_map};
-ghost use Rattle.ls_promises.specs.Lines.{ended, HasNoEnd};
+//! What a script does is a history.
+ghost use Rattle.std.specs.Prelude.{◌≡◌, ℕ, List, map, take, Some};
 ghost use Rattle.ls_vault.specs.Histories.{history, state_after};
-ghost use Rattle.ls_vault.specs.Script.{parted, told, after, event_of};
+ghost use Rattle.ls_vault.specs.Script.{told, after, event_of};
 ghost use Rattle.ls_vault.specs.declared.state.State.{State as States};
 
 /// The commands of a script, at their moments and with their drawn bytes, are a history, with the
@@ -15,12 +13,4 @@ pub fn scripts_are_histories()
     ensures states { (slots : ℕ) (s : States) (script moments noise : List ℕ) (count : ℕ)
         → state_after slots s (map event_of (take count (told slots s script moments noise)))
         ≡ after s (told slots s script moments noise) count }
-{}
-
-/// A script is its whole lines, each with its 0x0A, and a rest. No line and no rest has a 0x0A.
-pub fn scripts_are_parted()
-    ensures joined { (script : List ℕ)
-        → script ≡ flat_map ended (parted script).whole ++ (parted script).rest }
-    ensures unended { (script : List ℕ)
-        → AllByRecursion HasNoEnd (parted script).whole × HasNoEnd (parted script).rest }
 {}

@@ -12,9 +12,9 @@ ghost use Rattle.ls_script.specs.declared.reply.Reply.TheVariants.{Opened, Resum
 ghost use Rattle.ls_script.specs.declared.reply.Revealed.{Revealed};
 ghost use Rattle.ls_vault.specs.Histories.{Event, history, state_after, passes};
 ghost use Rattle.ls_vault.specs.Step.{step};
-ghost use Rattle.ls_vault.specs.Users.{contains};
+ghost use Rattle.ls_arming.specs.Numbers.{contains};
 ghost use Rattle.ls_vault.specs.declared.state.State.{State as States};
-ghost use Rattle.ls_vault.specs.declared.vault.Arming.{Arming as Armings};
+ghost use Rattle.ls_arming.specs.declared.arming.Arming.{Arming as Armings};
 
 /// An unlock reveals a user's keys exactly where the present credential is offered and nothing
 /// throttles; one by a token exactly where an active token of the user has the offered id and

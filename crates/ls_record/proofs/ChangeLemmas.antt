@@ -6,11 +6,12 @@ use Rattle.std.proofs.Math.Dec.{ltb, eqb}
 use Rattle.std.proofs.lemmas.Bool.{or_cases, not-true, lt-ltb, le-ltb, ltb-true, eqb-true, eqb-false, eq-eqb, ne_eqb, not_from_false, cases_order, cases_eq}
 use Rattle.std.proofs.lemmas.List.{length-append}
 use Rattle.ls_record.specs.declared.row.UserRow.{UserRow}
-use Rattle.ls_record.specs.declared.row.Armed.{Armed}
+use Rattle.ls_arming.specs.declared.arming.Arming.{Arming}
 use Rattle.ls_record.specs.declared.edit.Edit.{Edit}
 use Rattle.ls_record.specs.declared.edit.Edit.TheVariants.{PutRow, DropRow, SetArmed, ClearArmed}
 use Rattle.ls_record.specs.Rows.{Rec, rec, Pairs, IsRow, has, AreApart, IsBefore, IsArming, IsRecord, has_row}
-use Rattle.ls_record.specs.Edits.{below, above, arming_of, disarmed, changed, MayChange}
+use Rattle.ls_record.specs.Edits.{below, above, changed, MayChange}
+use Rattle.ls_arming.specs.Disarming.{arming_of, disarmed}
 use Rattle.ls_record.proofs.TestLemmas.{all_map, all_both, all_swap, not_has, has_not}
 use Rattle.ls_record.proofs.FilterLemmas.{all_filter, passing, pairs_filter, filter_none, filter_short, filter_shorter, all_between, pairs_insert, any_insert, any_here, any_kept}
 
@@ -110,7 +111,7 @@ module _ (r : Rec) (keeps : IsRecord r) where
           | inr other ↦ any_insert (λ y. eqb y.user u) (below r.users row.user) row (above r.users row.user) (kept_user row.user u other there)
         ]
 
-    armed_put : (o : Option Armed) → IfSome o (IsArming r.users) → IfSome o (IsArming (below r.users row.user ++ row ∷ above r.users row.user))
+    armed_put : (o : Option Arming) → IfSome o (IsArming r.users) → IfSome o (IsArming (below r.users row.user ++ row ∷ above r.users row.user))
     armed_put None h = tt
     armed_put (Some a) h = record {
       boot = h.boot;
@@ -141,7 +142,7 @@ module _ (r : Rec) (keeps : IsRecord r) where
     left_users boot users [] b few ascending there = tt
     left_users boot users (u ∷ left) b few ascending there = record { boot = b; some = omega arith; few = few; ascending = ascending; there = there }
 
-    armed_dropped : (o : Option Armed) → IfSome o (IsArming r.users) → IfSome (disarmed o user) (IsArming (below r.users user ++ above r.users user))
+    armed_dropped : (o : Option Arming) → IfSome o (IsArming r.users) → IfSome (disarmed o user) (IsArming (below r.users user ++ above r.users user))
     armed_dropped None h = tt
     armed_dropped (Some a) h =
         let p = λ (u : ℕ). not (eqb u user) in
@@ -167,14 +168,14 @@ module _ (r : Rec) (keeps : IsRecord r) where
 
   -- ---- the parts of what was made
 
-  pub put_made : (e : Edit) (row : UserRow) → e ≡ PutRow row → MayChange r e → (rows users : List UserRow) (armed : Option Armed) → rows ≡ r.users
+  pub put_made : (e : Edit) (row : UserRow) → e ≡ PutRow row → MayChange r e → (rows users : List UserRow) (armed : Option Arming) → rows ≡ r.users
       → users ≡ below rows row.user ++ row ∷ above rows row.user → armed ≡ r.armed → IsRecord (rec users armed)
   put_made e row is may rows users armed rows_are users_are armed_is =
       let made : rec users armed ≡ changed r (PutRow row) =
       λ i. rec ((users_are ∙ ap (λ (l : List UserRow). below l row.user ++ row ∷ above l row.user) rows_are) i) (armed_is i) in
       subst IsRecord (sym made) (put_keeps row (subst (MayChange r) is may))
 
-  pub drop_made : (user : ℕ) (rows users : List UserRow) (armed : Option Armed) → rows ≡ r.users → users ≡ below rows user ++ above rows user → armed ≡ disarmed r.armed user
+  pub drop_made : (user : ℕ) (rows users : List UserRow) (armed : Option Arming) → rows ≡ r.users → users ≡ below rows user ++ above rows user → armed ≡ disarmed r.armed user
       → IsRecord (rec users armed)
   drop_made user rows users armed rows_are users_are armed_is =
       let made : rec users armed ≡ changed r (DropRow user) = λ i. rec ((users_are ∙ ap (λ (l : List UserRow). below l user ++ above l user) rows_are) i) (armed_is i) in

@@ -11,7 +11,7 @@ use Rattle.ls_record.specs.declared.fault.RecordFault.{RecordFault}
 use Rattle.ls_record.specs.declared.fault.RecordFault.TheVariants.{Short, Order, Limit, Extra, Memory}
 use Rattle.ls_record.specs.Gives.{Tells}
 use Rattle.ls_record.specs.declared.row.UserRow.{UserRow}
-use Rattle.ls_record.specs.declared.row.Armed.{Armed}
+use Rattle.ls_arming.specs.declared.arming.Arming.{Arming}
 use Rattle.ls_record.specs.declared.edit.Edit.{Edit}
 use Rattle.ls_record.specs.declared.edit.Edit.TheVariants.{PutRow, DropRow, SetArmed, ClearArmed}
 use Rattle.ls_record.specs.Rows.{Rec, IsRow, has_row}
@@ -124,7 +124,7 @@ module _ (format : ℕ) (r : Rec) (rows_are : AllByRecursion IsRow r.users) wher
   drop_text : (text : List ℕ) (user : ℕ) → has_row r.users user ≡ true → text ≡ 2 ∷ be32 user → IsEditText format r text (DropRow user)
   drop_text text user row is = record { may = row; fits = tt; is = sym is }
 
-  set_text : (text : List ℕ) (a : Armed) → IsGoodArmed r.users a → text ≡ 3 ∷ armed_bytes a → IsEditText format r text (SetArmed a)
+  set_text : (text : List ℕ) (a : Arming) → IsGoodArmed r.users a → text ≡ 3 ∷ armed_bytes a → IsEditText format r text (SetArmed a)
   set_text text a good is = record { may = to_arming_rule r.users (Some a) good; fits = tt; is = sym is }
 
   clear_text : (text : List ℕ) → text ≡ 4 ∷ [] → IsEditText format r text ClearArmed

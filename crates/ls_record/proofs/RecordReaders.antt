@@ -10,7 +10,7 @@ use Rattle.ls_bytes.specs.Reading.{Reading}
 use Rattle.ls_record.specs.declared.fault.RecordFault.{RecordFault}
 use Rattle.ls_record.specs.declared.fault.RecordFault.TheVariants.{Short, Order, Limit, Extra, Memory}
 use Rattle.ls_record.specs.declared.row.UserRow.{UserRow}
-use Rattle.ls_record.specs.declared.row.Armed.{Armed}
+use Rattle.ls_arming.specs.declared.arming.Arming.{Arming}
 use Rattle.ls_record.specs.Rows.{Rec, IsArming, IsRow, has_row, is_next_armed}
 use Rattle.ls_record.specs.Spelling.{flag, row_bytes, armed_bytes, arming_bytes, record_bytes, HasFormat, IsTextOf}
 use Rattle.ls_record.specs.Reading.{Reads, go_on, ◌>>=◌, done, number, byte, any, flag_at, next_row_at, repeat, armed_user_at, armed_at, some_armed, arming_at, body_at, alone, front_of, record_of}
@@ -54,24 +54,24 @@ user_reader rows before =
 
 -- ---- an arming
 
-pub record IsGoodArmed (rows : List UserRow) (a : Armed) : Type 0 where
+pub record IsGoodArmed (rows : List UserRow) (a : Arming) : Type 0 where
   pub boot : a.boot < 2 ^ 32
   pub many : (leb 1 (length a.users) && leb (length a.users) 16) ≡ true
   pub steps : Stepwise (IsGoodUser rows) [] a.users
 
-abbrev IsArmedText : List UserRow → Armed → List ℕ → Type 0
+abbrev IsArmedText : List UserRow → Arming → List ℕ → Type 0
 IsArmedText rows a text = IsGoodArmed rows a × (text ≡ armed_bytes a)
 
 abbrev is_many : ℕ → Bool
 is_many n = leb 1 n && leb n 16
 
-abbrev armed_of : ℕ → List ℕ → Armed
+abbrev armed_of : ℕ → List ℕ → Arming
 armed_of boot users = record { boot = boot; users = users }
 
-abbrev AreArmedFields : List UserRow → Armed → List ℕ → Type 0
+abbrev AreArmedFields : List UserRow → Arming → List ℕ → Type 0
 AreArmedFields rows = Joined (IsText4 any any) (λ boot. Joined (IsByte is_many) (λ n. Joined (IsRepeat (IsGoodUser rows) be32 [] n) (λ users. Nothing (armed_of boot users))))
 
-to_armed : (rows : List UserRow) (a : Armed) (text : List ℕ) → AreArmedFields rows a text → IsArmedText rows a text
+to_armed : (rows : List UserRow) (a : Arming) (text : List ℕ) → AreArmedFields rows a text → IsArmedText rows a text
 to_armed rows a text h =
     let n = h.back_is in
     let u = n.back_is in
@@ -82,10 +82,10 @@ to_armed rows a text h =
     let text_is : text ≡ armed_bytes made =
     h.is ∙ (λ i. h.front_is.is i ++ n.is i) ∙ (λ i. be32 h.first ++ (n.front_is.is i ++ u.is i)) ∙ (λ i. be32 h.first ++ (sym many i ∷ (r.spelled i ++ u.back_is.1 i)))
     ∙ (λ i. be32 h.first ++ (length users ∷ (flat_map be32 (sym r.is i) ++ []))) ∙ (λ i. be32 h.first ++ (length users ∷ append-nil (flat_map be32 users) i)) in
-    subst (λ (x : Armed). IsArmedText rows x text) (sym u.back_is.0)
+    subst (λ (x : Arming). IsArmedText rows x text) (sym u.back_is.0)
     (record { boot = h.front_is.small; many = ap is_many many ∙ n.front_is.good; steps = subst (Stepwise (IsGoodUser rows) []) (sym r.is) r.good }, text_is)
 
-from_armed : (rows : List UserRow) (a : Armed) (text : List ℕ) → IsArmedText rows a text → AreArmedFields rows a text
+from_armed : (rows : List UserRow) (a : Arming) (text : List ℕ) → IsArmedText rows a text → AreArmedFields rows a text
 from_armed rows a text h =
     let few : length a.users ≤ 16 = leb-true (length a.users) 16 (and_parts (leb 1 (length a.users)) (leb (length a.users) 16) h.0.many).1 in
     record {
@@ -120,33 +120,33 @@ armed_reader rows =
 
 -- ---- an arming, or none
 
-abbrev pub IsGoodArming : List UserRow → Option Armed → Type 0
+abbrev pub IsGoodArming : List UserRow → Option Arming → Type 0
 IsGoodArming rows o = IfSome o (IsGoodArmed rows)
 
-abbrev IsArmingText : List UserRow → Option Armed → List ℕ → Type 0
+abbrev IsArmingText : List UserRow → Option Arming → List ℕ → Type 0
 IsArmingText rows o text = IsGoodArming rows o × (text ≡ arming_bytes o)
 
-abbrev IsSomeText : List UserRow → Option Armed → List ℕ → Type 0
+abbrev IsSomeText : List UserRow → Option Arming → List ℕ → Type 0
 IsSomeText rows = Joined (IsArmedText rows) (λ a. Nothing (Some a))
 
-abbrev none : Option Armed
+abbrev none : Option Arming
 none = None
 
-abbrev AreArmingFields : List UserRow → Option Armed → List ℕ → Type 0
+abbrev AreArmingFields : List UserRow → Option Arming → List ℕ → Type 0
 AreArmingFields rows = Joined (λ b text. text ≡ flag b ∷ []) (λ b o text. MatchBool b (IsSomeText rows o text) (Nothing none o text))
 
-to_arming : (rows : List UserRow) (o : Option Armed) (text : List ℕ) → AreArmingFields rows o text → IsArmingText rows o text
+to_arming : (rows : List UserRow) (o : Option Arming) (text : List ℕ) → AreArmingFields rows o text → IsArmingText rows o text
 to_arming rows o text h = by h.first h.front h.back h.front_is h.back_is h.is
   where
     by : (b : Bool) (front back : List ℕ) → front ≡ flag b ∷ [] → MatchBool b (IsSomeText rows o back) (Nothing none o back) → text ≡ front ++ back → IsArmingText rows o text
     by true front back front_is back_is is =
         let text_is : text ≡ 1 ∷ armed_bytes back_is.first =
         is ∙ (λ i. front_is i ++ back_is.is i) ∙ (λ i. 1 ∷ (back_is.front_is.1 i ++ back_is.back_is.1 i)) ∙ (λ i. 1 ∷ append-nil (armed_bytes back_is.first) i) in
-        subst (λ (x : Option Armed). IsArmingText rows x text) (sym back_is.back_is.0) (back_is.front_is.0, text_is)
+        subst (λ (x : Option Arming). IsArmingText rows x text) (sym back_is.back_is.0) (back_is.front_is.0, text_is)
     by false front back front_is back_is is =
-        subst (λ (x : Option Armed). IsArmingText rows x text) (sym back_is.0) (tt, is ∙ (λ i. front_is i ++ back_is.1 i))
+        subst (λ (x : Option Arming). IsArmingText rows x text) (sym back_is.0) (tt, is ∙ (λ i. front_is i ++ back_is.1 i))
 
-from_arming : (rows : List UserRow) (o : Option Armed) (text : List ℕ) → IsArmingText rows o text → AreArmingFields rows o text
+from_arming : (rows : List UserRow) (o : Option Arming) (text : List ℕ) → IsArmingText rows o text → AreArmingFields rows o text
 from_arming rows None text h = record { first = false; front = 0 ∷ []; back = []; front_is = refl; back_is = (refl, refl); is = h.1 }
 from_arming rows (Some a) text h = record {
   first = true;
@@ -184,7 +184,7 @@ record IsBodyText (r : Rec) (text : List ℕ) : Type 0 where
   good : IsGoodBody format r
   is : text ≡ record_bytes format r
 
-abbrev pub rec_of : List UserRow → Option Armed → Rec
+abbrev pub rec_of : List UserRow → Option Arming → Rec
 rec_of users armed = record { users = users; armed = armed }
 
 abbrev AreBodyFields : Rec → List ℕ → Type 0
@@ -261,7 +261,7 @@ small_user (r ∷ rows) u all h =
       | inr more ↦ small_user rows u all.1 more
     ]
 
-pub to_arming_rule : (rows : List UserRow) (o : Option Armed) → IsGoodArming rows o → IfSome o (IsArming rows)
+pub to_arming_rule : (rows : List UserRow) (o : Option Arming) → IsGoodArming rows o → IfSome o (IsArming rows)
 to_arming_rule rows None h = tt
 to_arming_rule rows (Some a) h =
     let steps = steps_pairs (λ u v. u < v) (IsThere rows) (IsGoodUser rows) (user_good rows) [] a.users h.steps tt in
@@ -274,7 +274,7 @@ to_arming_rule rows (Some a) h =
       there = all_map (IsThere rows) (λ u. has_row rows u ≡ true) (λ u t. t.row) a.users steps.1;
     }
 
-pub from_arming_rule : (rows : List UserRow) → AllByRecursion IsRow rows → (o : Option Armed) → IfSome o (IsArming rows) → IsGoodArming rows o
+pub from_arming_rule : (rows : List UserRow) → AllByRecursion IsRow rows → (o : Option Arming) → IfSome o (IsArming rows) → IsGoodArming rows o
 from_arming_rule rows all None h = tt
 from_arming_rule rows all (Some a) h = record {
   boot = h.boot;
@@ -413,9 +413,9 @@ module _ (bytes : List ℕ) (s : Reading) (start : s ≡ front_of bytes) where
         pub arming_fails : (e : RecordFault) → Tells (arming_at users v) e → Tells (record_of bytes) e
         arming_fails e h = subst (λ (r : Result Rec RecordFault). Tells r e) (sym armed_on) (step_tells (arming_at users v) (λ armed. done (rec_of users armed)) e h)
 
-        module _ (armed : Option Armed) (w : Reading) (fourth : arming_at users v ≡ Ok (armed, w)) where
+        module _ (armed : Option Arming) (w : Reading) (fourth : arming_at users v ≡ Ok (armed, w)) where
           whole : record_of bytes ≡ alone (Ok (rec_of users armed, w))
-          whole = armed_on ∙ ap (λ (r : Result (Option Armed × Reading) RecordFault). alone (go_on r (λ o. done (rec_of users o)))) fourth
+          whole = armed_on ∙ ap (λ (r : Result (Option Arming × Reading) RecordFault). alone (go_on r (λ o. done (rec_of users o)))) fourth
 
           pub body_read : w.left ≡ [] → record_of bytes ≡ Ok (rec_of users armed)
           body_read ended = whole ∙ rw ended refl

@@ -1,9 +1,9 @@
 -- Changes of a record: what each does, when it may be made, and its one spelling.
-use Rattle.std.specs.Prelude.{◌≡◌, ◌≢◌, ◌==◌, ◌||◌, not, nat_lt, ℕ, Bool, true, false, ⊤, List, [], ◌∷◌, ◌++◌, length, filter, Option, None, Some}
+use Rattle.std.specs.Prelude.{◌≡◌, ◌≢◌, ◌||◌, nat_lt, ℕ, Bool, true, false, ⊤, List, [], ◌∷◌, ◌++◌, length, filter, None, Some}
 use Rattle.std.specs.List.{AllByRecursion}
 use Rattle.ls_bytes.specs.Fields.{be32}
 use Rattle.ls_record.specs.declared.row.UserRow.{UserRow}
-use Rattle.ls_record.specs.declared.row.Armed.{Armed}
+use Rattle.ls_arming.specs.Disarming.{disarmed}
 use Rattle.ls_record.specs.declared.edit.Edit.{Edit}
 use Rattle.ls_record.specs.declared.edit.Edit.TheVariants.{PutRow, DropRow, SetArmed, ClearArmed}
 use Rattle.ls_record.specs.Rows.{Rec, rec, IsRow, AreApart, IsArming, has_row}
@@ -15,15 +15,6 @@ below rows user = filter (λ r. nat_lt r.user user) rows
 
 abbrev pub above : List UserRow → ℕ → List UserRow
 above rows user = filter (λ r. nat_lt user r.user) rows
-
--- the arming without a user, and none where no user is left
-abbrev pub arming_of : ℕ → List ℕ → Option Armed
-arming_of boot [] = None
-arming_of boot (u ∷ users) = Some (record { boot = boot; users = u ∷ users })
-
-abbrev pub disarmed : Option Armed → ℕ → Option Armed
-disarmed None user = None
-disarmed (Some a) user = arming_of a.boot (filter (λ u. not (u == user)) a.users)
 
 -- the record with the change
 abbrev pub changed : Rec → Edit → Rec

@@ -5,7 +5,7 @@ use Rattle.std.specs.List.{list_any}
 use Rattle.std.specs.Cmp.Lexicographic.{pointwise}
 use Rattle.ls_credential.specs.Codes.{code_of}
 use Rattle.ls_record.specs.declared.row.UserRow.{UserRow}
-use Rattle.ls_record.specs.declared.row.Armed.{Armed}
+use Rattle.ls_arming.specs.declared.arming.Arming.{Arming}
 use Rattle.ls_record.specs.declared.edit.Edit.{Edit}
 use Rattle.ls_record.specs.declared.edit.Edit.TheVariants.{PutRow, DropRow, SetArmed, ClearArmed}
 use Rattle.ls_record.specs.Rows.{Rec, has_row}
@@ -35,7 +35,7 @@ a_missing rows next = find (λ r. not (has_row next r.user)) rows
 abbrev pub a_new : List UserRow → List UserRow → Option UserRow
 a_new rows next = find (λ r. not (is_among rows r)) next
 
-abbrev pub arming_edit : Option Armed → Edit
+abbrev pub arming_edit : Option Arming → Edit
 arming_edit None = ClearArmed
 arming_edit (Some a) = SetArmed a
 

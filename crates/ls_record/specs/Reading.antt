@@ -6,7 +6,7 @@ use Rattle.ls_credential.specs.declared.kind.Kind.{Kind}
 use Rattle.ls_credential.specs.declared.kind.Kind.TheVariants.{Empty}
 use Rattle.ls_credential.specs.Codes.{kind_of}
 use Rattle.ls_record.specs.declared.row.UserRow.{UserRow}
-use Rattle.ls_record.specs.declared.row.Armed.{Armed}
+use Rattle.ls_arming.specs.declared.arming.Arming.{Arming}
 use Rattle.ls_record.specs.declared.fields.Flags.{Flags}
 use Rattle.ls_record.specs.declared.fault.RecordFault.{RecordFault}
 use Rattle.ls_record.specs.declared.fault.RecordFault.TheVariants.{Short, Order, Limit, Extra}
@@ -136,19 +136,19 @@ armed_user_at rows before =
     number 4 any (is_next_armed rows before)
 
 -- the boot, the number of users, and the users
-unfoldable pub armed_at : List UserRow → Reads Armed
+unfoldable pub armed_at : List UserRow → Reads Arming
 armed_at rows = do
   boot ← number 4 any any
   n ← byte (λ n. nat_le 1 n && nat_le n 16)
   users ← repeat (armed_user_at rows) [] n
   done (record { boot = boot; users = users })
 
-abbrev pub some_armed : List UserRow → Reads (Option Armed)
+abbrev pub some_armed : List UserRow → Reads (Option Arming)
 some_armed rows = do
   a ← armed_at rows
   done (Some a)
 
-abbrev pub arming_at : List UserRow → Reads (Option Armed)
+abbrev pub arming_at : List UserRow → Reads (Option Arming)
 arming_at rows = do
   b ← flag_at
   if b then some_armed rows else done None

@@ -4,7 +4,7 @@ use Rattle.std.specs.List.{AllByRecursion, list_any, list_all}
 use Rattle.ls_credential.specs.declared.kind.Kind.{Kind}
 use Rattle.ls_credential.specs.declared.kind.Kind.TheVariants.{Empty, Pattern, Pin, Password}
 use Rattle.ls_record.specs.declared.row.UserRow.{UserRow}
-use Rattle.ls_record.specs.declared.row.Armed.{Armed}
+use Rattle.ls_arming.specs.declared.arming.Arming.{Arming}
 
 -- ---- one row
 
@@ -89,9 +89,9 @@ is_last_user before user = list_all (λ r. nat_lt r.user user) before
 
 pub record Rec : Type 0 where
   pub users : List UserRow
-  pub armed : Option Armed
+  pub armed : Option Arming
 
-abbrev pub rec : List UserRow → Option Armed → Rec
+abbrev pub rec : List UserRow → Option Arming → Rec
 rec users armed = record { users = users; armed = armed }
 
 -- a user has a row
@@ -103,7 +103,7 @@ abbrev pub is_next_armed : List UserRow → List ℕ → ℕ → Bool
 is_next_armed rows before user = list_all (λ u. nat_lt u user) before && has_row rows user
 
 -- 1 to 16 users that have rows, ascending
-pub record IsArming (rows : List UserRow) (a : Armed) : Type 0 where
+pub record IsArming (rows : List UserRow) (a : Arming) : Type 0 where
   pub boot : a.boot < 2 ^ 32
   pub some : 1 ≤ length a.users
   pub few : length a.users ≤ 16

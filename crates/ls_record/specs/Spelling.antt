@@ -4,7 +4,7 @@ use Rattle.std.specs.List.{flat_map, AllByRecursion}
 use Rattle.ls_bytes.specs.Fields.{be32, be64}
 use Rattle.ls_credential.specs.Codes.{code_of}
 use Rattle.ls_record.specs.declared.row.UserRow.{UserRow}
-use Rattle.ls_record.specs.declared.row.Armed.{Armed}
+use Rattle.ls_arming.specs.declared.arming.Arming.{Arming}
 use Rattle.ls_record.specs.Rows.{Rec, IsRecord}
 
 -- a flag
@@ -29,10 +29,10 @@ abbrev pub row_bytes : ℕ → UserRow → List ℕ
 row_bytes format r = be32 r.user ++ row_rest format r
 
 -- the boot, and the users
-abbrev pub armed_bytes : Armed → List ℕ
+abbrev pub armed_bytes : Arming → List ℕ
 armed_bytes a = be32 a.boot ++ (length a.users ∷ flat_map be32 a.users)
 
-abbrev pub arming_bytes : Option Armed → List ℕ
+abbrev pub arming_bytes : Option Arming → List ℕ
 arming_bytes None = 0 ∷ []
 arming_bytes (Some a) = 1 ∷ armed_bytes a
 

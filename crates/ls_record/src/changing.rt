@@ -1,42 +1,19 @@
 //! A record with a change made.
 ghost use Rattle.std.specs.Prelude.{◌≡◌, ◌⊎◌, ◌++◌, ◌∷◌, IfOk, MatchResult, Ok};
-ghost use Rattle.ls_record.specs.Edits.{below, above, arming_of, disarmed};
+ghost use Rattle.ls_record.specs.Edits.{below, above};
 ghost use Rattle.ls_record.specs.declared.fault.RecordFault.TheVariants as fault;
 ghost use Rattle.ls_record.specs.Gives.{Tells};
 
-use crate::copying::{copy_armed, copy_arming, copy_row, copy_rows};
+use crate::copying::{copy_row, copy_rows};
 use crate::edit::Edit;
 use crate::edit_reading::read_edit;
 use crate::fault::RecordFault;
-use crate::parts::{push_above, push_below, users_without};
+use crate::parts::{push_above, push_below};
 use crate::record::Record;
-use crate::row::{Armed, RowList, UserRow};
-use ls_bytes::{Memory, UserList};
+use crate::row::{RowList, UserRow};
+use ls_arming::{copy_arming, disarmed};
+use ls_bytes::Memory;
 use std::alloc::Global;
-
-/// The arming of a boot for these users, and none where there are none.
-fn arming_of(boot: u32, users: UserList) -> Option<Armed>
-    ensures same { result ≡ arming_of boot users }
-{
-    if users.len() == 0 {
-        None
-    } else {
-        Some(Armed { boot, users })
-    }
-}
-
-/// The arming without a user.
-fn disarmed(alloc: Global, arming: &Option<Armed>, user: u32) -> Result<Option<Armed>, Memory>
-    ensures same { IfOk result (λ left. left ≡ disarmed arming.now user) }
-{
-    match arming {
-        None => Ok(None),
-        Some(armed) => {
-            let left = users_without(alloc, armed.users.as_slice(), user)?;
-            Ok(arming_of(armed.boot, left))
-        }
-    }
-}
 
 /// The rows with this one in its user's place.
 fn rows_with(alloc: Global, rows: &[UserRow], row: &UserRow) -> Result<RowList, Memory>
@@ -79,12 +56,12 @@ impl Record {
             }
             Edit::DropRow { user } => {
                 let users = rows_without(alloc, self.users.as_slice(), *user)?;
-                let armed = disarmed(alloc, &self.armed, *user)?;
+                let armed = disarmed(copy_arming(alloc, &self.armed)?, *user);
                 Ok(Record { users, armed })
             }
             Edit::SetArmed(armed) => {
                 let users = copy_rows(alloc, self.users.as_slice())?;
-                let armed = Some(copy_armed(alloc, armed)?);
+                let armed = Some(armed.copy(alloc)?);
                 Ok(Record { users, armed })
             }
             Edit::ClearArmed => {

@@ -1,8 +1,9 @@
 //! A change of a record.
 ghost use Rattle.std.specs.Prelude.{◌≡◌, IfOk};
 
-use crate::row::{Armed, UserRow};
+use crate::row::UserRow;
 use crate::writing::{put_armed, put_row};
+use ls_arming::Arming;
 use ls_bytes::{Bytes, Memory, put_be32, put_u8};
 use std::alloc::Global;
 
@@ -14,7 +15,7 @@ pub enum Edit {
     /// A user without its row. The user leaves the arming too, and an arming without users is none.
     DropRow { user: u32 },
     /// An arming in the place of the one before.
-    SetArmed(Armed),
+    SetArmed(Arming),
     /// No arming.
     ClearArmed,
 }

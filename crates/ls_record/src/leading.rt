@@ -3,12 +3,13 @@ ghost use Rattle.std.specs.Prelude.{◌≡◌, ◌≢◌, MatchBool, MatchResult
 ghost use Rattle.std.specs.Option.{option_copied};
 ghost use Rattle.ls_record.specs.Leading.{same_flags, same_ids, same_row, is_among, a_missing, a_new, arming_edit, candidate};
 
-use crate::copying::{copy_armed, copy_row};
+use crate::copying::copy_row;
 use crate::edit::Edit;
 use crate::fault::RecordFault;
 use crate::record::Record;
-use crate::row::{Armed, UserRow};
+use crate::row::UserRow;
 use crate::rows::has_row;
+use ls_arming::Arming;
 use ls_bytes::Memory;
 use std::alloc::Global;
 
@@ -52,12 +53,12 @@ fn a_new<'a>(rows: &[UserRow], next: &'a [UserRow]) -> Option<&'a UserRow>
     next.iter().find(|r| !is_among(rows, r))
 }
 
-fn arming_edit(alloc: Global, arming: &Option<Armed>) -> Result<Edit, Memory>
+fn arming_edit(alloc: Global, arming: &Option<Arming>) -> Result<Edit, Memory>
     ensures same { IfOk result (λ e. e ≡ arming_edit arming.now) }
 {
     match arming {
         None => Ok(Edit::ClearArmed),
-        Some(armed) => Ok(Edit::SetArmed(copy_armed(alloc, armed)?)),
+        Some(armed) => Ok(Edit::SetArmed(armed.copy(alloc)?)),
     }
 }
 

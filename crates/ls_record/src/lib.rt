@@ -20,4 +20,4 @@ mod writing;
 pub use edit::Edit;
 pub use fault::RecordFault;
 pub use record::Record;
-pub use row::{Armed, RowList, UserRow};
+pub use row::{RowList, UserRow};

@@ -1,10 +1,10 @@
-//! Parts of rows and of lists of users, copied.
-ghost use Rattle.std.specs.Prelude.{◌≡◌, ◌==◌, ◌++◌, ◌∷◌, [], not, filter, if◌then◌else◌, OnOk, IfOk};
+//! Parts of rows, copied.
+ghost use Rattle.std.specs.Prelude.{◌≡◌, ◌++◌, ◌∷◌, [], if◌then◌else◌, OnOk};
 ghost use Rattle.ls_record.specs.Edits.{below, above};
 
 use crate::copying::copy_row;
 use crate::row::{RowList, UserRow};
-use ls_bytes::{Memory, UserList};
+use ls_bytes::Memory;
 use std::alloc::Global;
 
 /// Puts a copy of the row at the end where it is to be kept.
@@ -45,25 +45,4 @@ pub(crate) fn push_above(
         push_if(list, alloc, row, user < row.user)?;
     }
     Ok(())
-}
-
-/// Puts the number at the end where it is to be kept.
-fn push_user_if(list: &mut UserList, user: u32, keep: bool) -> Result<(), Memory>
-    ensures put { OnOk result (list.new ≡ list.old ++ (if keep then user ∷ [] else [])) }
-{
-    if keep {
-        list.push(user)?;
-    }
-    Ok(())
-}
-
-/// The users but for one.
-pub(crate) fn users_without(alloc: Global, users: &[u32], user: u32) -> Result<UserList, Memory>
-    ensures left { IfOk result (λ left. left ≡ filter (λ u. not (u == user)) users.now) }
-{
-    let mut left = UserList::new(alloc);
-    for u in users {
-        push_user_if(&mut left, *u, *u != user)?;
-    }
-    Ok(left)
 }

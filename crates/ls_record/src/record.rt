@@ -5,10 +5,11 @@ ghost use Rattle.ls_record.specs.Reading.{record_of};
 ghost use Rattle.ls_record.specs.Gives.{Tells};
 
 use crate::body::BodyReader;
-use crate::copying::{copy_arming, copy_rows};
+use crate::copying::copy_rows;
 use crate::fault::RecordFault;
-use crate::row::{Armed, RowList};
+use crate::row::RowList;
 use crate::writing::{put_arming, put_count, put_rows};
+use ls_arming::{Arming, copy_arming};
 use ls_bytes::{Bytes, Memory};
 use std::alloc::Global;
 use std::marker::Model;
@@ -18,7 +19,7 @@ use std::marker::Model;
 #[derive(Drop)]
 pub struct Record {
     pub users: RowList,
-    pub armed: Option<Armed>,
+    pub armed: Option<Arming>,
 }
 
 impl Model for Record {
@@ -67,7 +68,7 @@ impl Record {
     {
         let users = &self.users;
         let mut to = Bytes::of(alloc, &[2])?;
-        put_count(&mut to, users.len())?;
+        put_count(&mut to, users.as_slice().len())?;
         put_rows(&mut to, users.as_slice())?;
         put_arming(&mut to, &self.armed)?;
         Ok(to)

@@ -1,6 +1,6 @@
 //! What a record says of a user.
 
-use ls_bytes::{IdList, Rows, UserList};
+use ls_bytes::{IdList, Rows};
 use ls_credential::Kind;
 
 /// What a record says of a user. It holds no secret, no slot and no counter.
@@ -24,10 +24,3 @@ pub struct UserRow {
 
 /// A list of rows.
 pub type RowList = Rows<UserRow>;
-
-/// The boot that armed a resume, and the users that it is for, ascending.
-#[derive(Drop)]
-pub struct Armed {
-    pub boot: u32,
-    pub users: UserList,
-}

@@ -7,8 +7,8 @@ ghost use Rattle.ls_record.specs.Gives.{Gives};
 use crate::body::BodyReader;
 use crate::fault::RecordFault;
 use crate::judge::judged;
-use crate::row::{Armed, RowList, UserRow};
-use ls_bytes::UserList;
+use crate::row::{RowList, UserRow};
+use ls_arming::{Arming, UserNumbers};
 use std::alloc::Global;
 
 /// Whether the user is above those of the rows before.
@@ -122,10 +122,10 @@ impl<'a> BodyReader<'a> {
         alloc: Global,
         rows: &[UserRow],
         n: u8,
-    ) -> Result<UserList, RecordFault>
+    ) -> Result<UserNumbers, RecordFault>
         ensures gives { Gives (repeat (armed_user_at rows.now) [] n) self.old result self.new }
     {
-        let mut users = UserList::new(alloc);
+        let mut users = UserNumbers::new(alloc);
         for _ in 0..n {
             let user = self.armed_user(rows, users.as_slice())?;
             users.push(user)?;
@@ -146,24 +146,24 @@ impl<'a> BodyReader<'a> {
 
     /// A boot, and the users that it armed.
     #[tactic(auto, unfolding(crate::specs::Reading::armed_at))]
-    pub fn armed(&mut self, alloc: Global, rows: &[UserRow]) -> Result<Armed, RecordFault>
+    pub fn armed(&mut self, alloc: Global, rows: &[UserRow]) -> Result<Arming, RecordFault>
         ensures gives { Gives (armed_at rows.now) self.old result self.new }
     {
         let boot = self.boot()?;
         let n = self.count(1, 16)?;
         let users = self.armed_users(alloc, rows, n)?;
-        Ok(Armed { boot, users })
+        Ok(Arming { boot, users })
     }
 
     /// An arming, where there is one.
-    fn some_armed(&mut self, alloc: Global, rows: &[UserRow]) -> Result<Option<Armed>, RecordFault>
+    fn some_armed(&mut self, alloc: Global, rows: &[UserRow]) -> Result<Option<Arming>, RecordFault>
         ensures gives { Gives (some_armed rows.now) self.old result self.new }
     {
         Ok(Some(self.armed(alloc, rows)?))
     }
 
     /// Whether there is an arming, and the arming.
-    pub fn arming(&mut self, alloc: Global, rows: &[UserRow]) -> Result<Option<Armed>, RecordFault>
+    pub fn arming(&mut self, alloc: Global, rows: &[UserRow]) -> Result<Option<Arming>, RecordFault>
         ensures gives { Gives (arming_at rows.now) self.old result self.new }
     {
         if self.flag()? {

@@ -4,11 +4,12 @@ ghost use Rattle.std.specs.List.{flat_map};
 ghost use Rattle.ls_bytes.specs.Fields.{be32, be64};
 ghost use Rattle.ls_record.specs.Spelling.{flag, row_bytes, armed_bytes, arming_bytes};
 
-use crate::row::{Armed, UserRow};
+use crate::row::UserRow;
+use ls_arming::Arming;
 use ls_bytes::{Bytes, Memory, put_be32, put_be64, put_bytes, put_u8};
 
 /// Puts a number of rows at the end, in one byte. Where it doesn't fit, so many rows have no room.
-pub(crate) fn put_count(to: &mut Bytes, n: u32) -> Result<(), Memory>
+pub(crate) fn put_count(to: &mut Bytes, n: usize) -> Result<(), Memory>
     ensures put { OnOk result (to.new ≡ to.old ++ n ∷ []) }
 {
     if n > 255 {
@@ -52,7 +53,7 @@ pub(crate) fn put_row(to: &mut Bytes, row: &UserRow) -> Result<(), Memory>
     )?;
     put_be64(to, row.protector)?;
     put_be64(to, row.secure)?;
-    put_count(to, row.tokens.len())?;
+    put_count(to, row.tokens.as_slice().len())?;
     put_ids(to, row.tokens.as_slice())?;
     Ok(())
 }
@@ -68,17 +69,17 @@ pub(crate) fn put_rows(to: &mut Bytes, rows: &[UserRow]) -> Result<(), Memory>
 }
 
 /// Puts a boot and the users that it armed at the end.
-pub(crate) fn put_armed(to: &mut Bytes, armed: &Armed) -> Result<(), Memory>
+pub(crate) fn put_armed(to: &mut Bytes, armed: &Arming) -> Result<(), Memory>
     ensures put { OnOk result (to.new ≡ to.old ++ armed_bytes armed.now) }
 {
     put_be32(to, armed.boot)?;
-    put_count(to, armed.users.len())?;
+    put_count(to, armed.users.as_slice().len())?;
     put_users(to, armed.users.as_slice())?;
     Ok(())
 }
 
 /// Puts at the end whether there is an arming, and the arming.
-pub(crate) fn put_arming(to: &mut Bytes, arming: &Option<Armed>) -> Result<(), Memory>
+pub(crate) fn put_arming(to: &mut Bytes, arming: &Option<Arming>) -> Result<(), Memory>
     ensures put { OnOk result (to.new ≡ to.old ++ arming_bytes arming.now) }
 {
     match arming {

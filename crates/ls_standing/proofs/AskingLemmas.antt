@@ -3,7 +3,7 @@ use Rattle.std.proofs.Common.{◌≡◌, ◌≢◌, ◌≤◌, ◌⊎◌, inl, i
 use Rattle.std.specs.Prelude.{MatchBool, nat_lt, slice_get, ◌==◌}
 use Rattle.std.specs.List.{AllZip, Contains}
 use Rattle.std.specs.Option.{option_and_then}
-use Rattle.std.proofs.Math.Dec.{eqb, ltb}
+use Rattle.std.proofs.Math.Dec.{eqb}
 use Rattle.std.proofs.lemmas.Bool.{and_parts, not-true, ltb-false}
 use Rattle.std.proofs.lemmas.Option.{slice_get_past}
 use Rattle.ls_credential.specs.declared.kind.Kind.{Kind}
@@ -39,7 +39,7 @@ use Rattle.ls_standing.specs.Named.{credential_of, token_of, UserHeld, RowHeld, 
 use Rattle.ls_standing.specs.NamedProtectors.{row_protectors, NamesProtector}
 use Rattle.ls_standing.specs.Opening.{first_foreign}
 use Rattle.ls_standing.specs.Same.{SameSettings}
-use Rattle.ls_standing.specs.Standing.{HoldsEscrow, HoldsUser, arming_of, StandsDurably}
+use Rattle.ls_standing.specs.Standing.{HoldsEscrow, HoldsUser, kept_arming, StandsDurably}
 use Rattle.ls_standing.proofs.ContainsLemmas.{at_first, behind_first, in_map, in_flat}
 use Rattle.ls_standing.proofs.FrameLemmas.{where_same, map_same, foreign_by, current_same, target_same}
 use Rattle.ls_standing.proofs.IdLemmas.{even_not_odd, is_row}
@@ -197,7 +197,7 @@ module _ (w new : World) (s : Settled) (v : Vault) (stands : StandsDurably w s v
       holds = record {
         users = all;
         files = foreign_by s.rec w new count (λ name named. file (part_name_text name)) ∙ stands.stands.holds.files;
-        arming = stands.stands.holds.arming ∙ ap (arming_of s.rec.armed) (sym cell);
+        arming = stands.stands.holds.arming ∙ ap (kept_arming s.rec.armed) (sym cell);
       };
     };
     settings = λ side. touch (settings_text side) ∙ stands.settings side;

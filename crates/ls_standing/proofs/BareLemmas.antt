@@ -7,7 +7,7 @@ use Rattle.std.proofs.lemmas.Cmp.{nat_cmp_total, nat_list_cmp_total}
 use Rattle.std.proofs.lemmas.Map.Lookups.{exact_bytes}
 use Rattle.ls_formats.specs.declared.name.FileName.TheVariants.{Settings, Protector as ProtectorName}
 use Rattle.ls_formats.specs.PartNames.{PartOf, IsPartOf, part_name_text}
-use Rattle.ls_record.specs.declared.row.Armed.{Armed}
+use Rattle.ls_arming.specs.declared.arming.Arming.{Arming}
 use Rattle.ls_record.specs.Rows.{Rec, IsRecord}
 use Rattle.ls_naming.specs.Named.{NamesFile, NamesSlot, NamesKey, NamesEnrolled}
 use Rattle.ls_naming.proofs.NamingLemmas.{slots_follow, record_named}
@@ -103,11 +103,11 @@ keeps_settings start w mid kept keeps same = keeps_same start w mid kept setting
 
 -- ---- what a record names, by the reach
 
-pub not_armed : (o : Option Armed) → ¬ (is_some o ≡ true) → o ≡ None
+pub not_armed : (o : Option Arming) → ¬ (is_some o ≡ true) → o ≡ None
 not_armed None un = refl
 not_armed (Some a) un = absurd (un refl)
 
-armed_not : (o : Option Armed) → o ≡ None → ¬ (is_some o ≡ true)
+armed_not : (o : Option Arming) → o ≡ None → ¬ (is_some o ≡ true)
 armed_not o none is = let bad : false ≡ true = sym (ap is_some none) ∙ is in absurd (cc)
 
 pub bare_keeps : (start w : World) (r : Rec) (retired : List (List ℕ)) → IsBare start w r retired → KeepsOnly start w (named_by w r retired)

@@ -10,7 +10,7 @@ use Rattle.ls_formats.specs.declared.part.FilePart.{FilePart}
 use Rattle.ls_formats.specs.declared.part.FilePart.TheVariants.{SpBlob, Pwd, Secdis, Weaver, Metrics, Handle, E0, P1, Resume}
 use Rattle.ls_formats.specs.PartNames.{PartOf, part_name_text}
 use Rattle.ls_record.specs.declared.row.UserRow.{UserRow}
-use Rattle.ls_record.specs.declared.row.Armed.{Armed}
+use Rattle.ls_arming.specs.declared.arming.Arming.{Arming}
 use Rattle.ls_record.specs.Rows.{Rec, IsBefore, IsRecord, Pairs, has}
 use Rattle.ls_naming.specs.Named.{only_if, has_credential, row_files, NamesSlot}
 use Rattle.ls_board.specs.declared.world.World.{World}
@@ -81,13 +81,13 @@ names_of_two : (b : Bool) (p q : Protector) → OtherId p q → (m n : PartOf) �
 names_of_two b p q other m n hm hn is also same = other (file_id b p m hm ∙ same ∙ sym (file_id b q n hn))
 
 -- the files of a row are its own and those of its protectors
-split_files : (b : Bool) (armed : Option Armed) (row : UserRow) → own_files armed row ++ flat_map (protector_files b) (row_protectors row) ≡ row_files b armed row
+split_files : (b : Bool) (armed : Option Arming) (row : UserRow) → own_files armed row ++ flat_map (protector_files b) (row_protectors row) ≡ row_files b armed row
 split_files b armed row =
     ap (λ (l : List PartOf). own_files armed row ++ l)
     (flat_map-cons (protector_files b) (credential_of row) (map (token_of row) row.tokens)
     ∙ ap (λ (l : List PartOf). protector_files b (credential_of row) ++ l) (flat_map-map (protector_files b) (token_of row) row.tokens))
 
-names_of_row : (b : Bool) (armed : Option Armed) (row : UserRow) → Pairs OtherId (row_protectors row) → Pairs OtherName (row_files b armed row)
+names_of_row : (b : Bool) (armed : Option Arming) (row : UserRow) → Pairs OtherId (row_protectors row) → Pairs OtherName (row_files b armed row)
 names_of_row b armed row ids =
     subst (Pairs OtherName) (split_files b armed row)
     (pairs_append OtherName (own_files armed row) (flat_map (protector_files b) (row_protectors row))
@@ -99,7 +99,7 @@ abbrev OtherFile : RowFile → RowFile → Type 0
 OtherFile f g = OtherName f.1 g.1
 
 -- the files of a row, each with the row
-abbrev with_row : Bool → Option Armed → UserRow → List RowFile
+abbrev with_row : Bool → Option Arming → UserRow → List RowFile
 with_row b armed row = map (λ (n : PartOf). (row, n)) (row_files b armed row)
 
 names_of_rows : (b : Bool) (r : Rec) → IsRecord r → (x z : UserRow) → Contains r.users x → Contains r.users z → IsBefore x z

@@ -8,7 +8,7 @@ use Rattle.ls_formats.specs.declared.side.Side.{Side}
 use Rattle.ls_formats.specs.declared.side.Side.TheVariants.{First, Second}
 use Rattle.ls_formats.specs.PartNames.{PartOf, part_name_text}
 use Rattle.ls_record.specs.declared.row.UserRow.{UserRow}
-use Rattle.ls_record.specs.declared.row.Armed.{Armed}
+use Rattle.ls_arming.specs.declared.arming.Arming.{Arming}
 use Rattle.ls_record.specs.Rows.{Rec}
 use Rattle.ls_naming.specs.Named.{is_armed, has_secure, row_files, NamesFile, NamesEnrolled, NamesKey}
 use Rattle.ls_naming.specs.Current.{Settled, current, is_open}
@@ -25,7 +25,7 @@ use Rattle.ls_sealing.proofs.HeldLemmas.{held_same}
 use Rattle.ls_standing.specs.Named.{credential_of, token_of, is_its_part, user_file, held_of_user, held_of_row}
 use Rattle.ls_standing.specs.Opening.{file_fault, files_of_rows, content_at, slot_in, version_in, beside, foreign_or, first_foreign_of, first_foreign}
 use Rattle.ls_standing.specs.Sound.{IsSoundFile}
-use Rattle.ls_standing.specs.Standing.{HoldsUser, arming_of, Holds, IsTargetWhole, StandsBy, NamedAreUntouched, StandsDurably}
+use Rattle.ls_standing.specs.Standing.{HoldsUser, kept_arming, Holds, IsTargetWhole, StandsBy, NamedAreUntouched, StandsDurably}
 use Rattle.ls_standing.specs.Same.{SameNamed, SameSettings}
 use Rattle.ls_standing.proofs.NamedLemmas.{name_of, user_named, credential_named, token_named, credential_key, token_key, secure_enrolled, credential_enrolled, armed_key, slot_named}
 use Rattle.ls_standing.proofs.ContainsLemmas.{at_first, behind_first, in_map, in_flat, of_map, of_flat}
@@ -130,7 +130,7 @@ module _ (r : Rec) (old new : World) (same : SameNamed r old new) where
           cell = cell i;
         }
       where
-        cell_by : (o : Option Armed) → r.armed ≡ o → is_armed o row.user ≡ true → new.cell ≡ old.cell
+        cell_by : (o : Option Arming) → r.armed ≡ o → is_armed o row.user ≡ true → new.cell ≡ old.cell
         cell_by None is has = absurd (cc)
         cell_by (Some a) is has = same.cell a is
 
@@ -163,12 +163,16 @@ module _ (r : Rec) (old new : World) (same : SameNamed r old new) where
 
   -- ---- what the world stands for
 
-  arming_same : arming_of r.armed new.cell ≡ arming_of r.armed old.cell
+  nothing_kept : (cell : Option (List ℕ)) → kept_arming None cell ≡ None
+  nothing_kept None = refl
+  nothing_kept (Some once) = refl
+
+  arming_same : kept_arming r.armed new.cell ≡ kept_arming r.armed old.cell
   arming_same = by r.armed refl
     where
-      by : (o : Option Armed) → r.armed ≡ o → arming_of o new.cell ≡ arming_of o old.cell
-      by None is = refl
-      by (Some a) is = ap (arming_of (Some a)) (same.cell a is)
+      by : (o : Option Arming) → r.armed ≡ o → kept_arming o new.cell ≡ kept_arming o old.cell
+      by None is = nothing_kept new.cell ∙ sym (nothing_kept old.cell)
+      by (Some a) is = ap (kept_arming (Some a)) (same.cell a is)
 
   pub holds_same : (v : Vault) → Holds old r v → Holds new r v
   holds_same v holds = record {

@@ -6,7 +6,7 @@ use Rattle.std.proofs.lemmas.List.Elements.{Contains-append_left, Contains-appen
 use Rattle.ls_formats.specs.declared.part.FilePart.{FilePart}
 use Rattle.ls_formats.specs.PartNames.{PartOf, part_name_text}
 use Rattle.ls_record.specs.declared.row.UserRow.{UserRow}
-use Rattle.ls_record.specs.declared.row.Armed.{Armed}
+use Rattle.ls_arming.specs.declared.arming.Arming.{Arming}
 use Rattle.ls_record.specs.Rows.{Rec}
 use Rattle.ls_naming.specs.Named.{only_if, has_credential, has_secure, user_parts, credential_parts, token_parts, parts_of, token_files, row_files, NamesFile, row_keys, NamesKey, row_enrolled, NamesEnrolled, NamesSlot}
 use Rattle.ls_board.specs.declared.action.Action.{Action}
@@ -19,7 +19,7 @@ use Rattle.ls_standing.specs.Named.{credential_of, token_of}
 use Rattle.ls_standing.specs.NamedProtectors.{row_protectors, NamesProtector}
 use Rattle.ls_standing.proofs.ContainsLemmas.{at_first, behind_first, first_or_behind, of_map, in_flat, of_flat, in_map}
 use Rattle.ls_standing.proofs.ProtectorLemmas.{owned, named, in_row}
-use Rattle.ls_standing.proofs.UnnamedLemmas.{of_only_if, HasProtector, protector_of, key_cases}
+use Rattle.ls_standing.proofs.UnnamedLemmas.{of_only_if, HasProtector, key_cases}
 
 -- ---- keys
 
@@ -36,10 +36,10 @@ key_named r p has =
     Contains-append_left (flat_map row_keys r.users) (only_if (is_some r.armed) (0 ∷ [])) p.id
     (in_flat row_keys r.users row.0 p.id row.1 (row_key row.0 p (first_or_behind (credential_of row.0) (map (token_of row.0) row.0.tokens) p row.2)))
 
-some_armed : (o : Option Armed) → is_some o ≡ true → o ≢ None
+some_armed : (o : Option Arming) → is_some o ≡ true → o ≢ None
 some_armed o is none = let bad : false ≡ true = sym (ap is_some none) ∙ is in absurd (cc)
 
-armed_some : (o : Option Armed) → o ≢ None → is_some o ≡ true
+armed_some : (o : Option Arming) → o ≢ None → is_some o ≡ true
 armed_some None there = absurd (there refl)
 armed_some (Some a) there = refl
 

@@ -9,7 +9,7 @@ use Rattle.ls_formats.specs.declared.part.FilePart.{FilePart}
 use Rattle.ls_formats.specs.declared.part.FilePart.TheVariants.{SpBlob, Pwd, Secdis, Weaver, Metrics, Handle, E0, P1, Resume}
 use Rattle.ls_formats.specs.PartNames.{PartOf}
 use Rattle.ls_record.specs.declared.row.UserRow.{UserRow}
-use Rattle.ls_record.specs.declared.row.Armed.{Armed}
+use Rattle.ls_arming.specs.declared.arming.Arming.{Arming}
 use Rattle.ls_record.specs.Rows.{Rec}
 use Rattle.ls_naming.specs.Named.{only_if, is_armed, has_credential, has_secure, user_parts, credential_parts, token_parts, parts_of, token_files, row_files, NamesFile, NamesSlot, row_keys, NamesKey, row_enrolled, NamesEnrolled}
 use Rattle.ls_naming.specs.Membership.{part_number, same_part}
@@ -125,7 +125,7 @@ module _ (weaver : Bool) (r : Rec) (row : UserRow) (here : Contains r.users row)
 pub armed_key : (r : Rec) (user : ℕ) → is_armed r.armed user ≡ true → NamesKey r 0
 armed_key r user armed = by r.armed refl armed
   where
-    by : (o : Option Armed) → r.armed ≡ o → is_armed o user ≡ true → NamesKey r 0
+    by : (o : Option Arming) → r.armed ≡ o → is_armed o user ≡ true → NamesKey r 0
     by None is h = absurd (cc)
     by (Some a) is h =
         Contains-append_right (flat_map row_keys r.users) (only_if (is_some r.armed) (0 ∷ [])) 0

@@ -16,7 +16,7 @@ use Rattle.ls_formats.specs.declared.part.FilePart.TheVariants.{SpBlob, Pwd, Sec
 use Rattle.ls_formats.specs.PartNames.{PartOf, part_name_text}
 use Rattle.ls_formats.proofs.ContentLemmas.{big_are_bytes}
 use Rattle.ls_record.specs.declared.row.UserRow.{UserRow}
-use Rattle.ls_record.specs.declared.row.Armed.{Armed}
+use Rattle.ls_arming.specs.declared.arming.Arming.{Arming}
 use Rattle.ls_record.specs.Rows.{Rec, IsRow, IsRecord, is_odd}
 use Rattle.ls_naming.specs.Membership.{same_part, part_number}
 use Rattle.ls_naming.specs.Named.{only_if, is_armed, has_credential, has_secure, user_parts, credential_parts, token_parts, parts_of, token_files, row_files, NamesSlot}
@@ -79,7 +79,7 @@ has_weaver_part false (credential Password) has = absurd (cc)
 has_weaver_part true token has = behind_first SpBlob (Secdis ∷ Weaver ∷ []) Weaver (behind_first Secdis (Weaver ∷ []) Weaver (at_first Weaver []))
 has_weaver_part false token has = absurd (cc)
 
-any_part : (parts : List FilePart) (part : FilePart) → Contains parts part → list_any (same_part part) parts ≡ true
+pub any_part : (parts : List FilePart) (part : FilePart) → Contains parts part → list_any (same_part part) parts ≡ true
 any_part parts part h = any_contained (same_part part) parts part h (eq-eqb (part_number part) (part_number part) refl)
 
 -- the files of a protector
@@ -87,7 +87,7 @@ abbrev pub protector_files : Bool → Protector → List PartOf
 protector_files b p = parts_of p.user p.id (parts_for b p.purpose)
 
 -- its `weaver` file names its slot
-number_held : (w : World) (p : Protector) (name : PartOf) (slot : ℕ) → Contains (protector_files (has_weaver w) p) name → name.part ≡ Weaver
+pub number_held : (w : World) (p : Protector) (name : PartOf) (slot : ℕ) → Contains (protector_files (has_weaver w) p) name → name.part ≡ Weaver
     → slot < 2 ^ 32 → file_at w (part_name_text name) ≡ Some (of_slot slot) → held_number w p ≡ Some slot
 number_held w p name slot within part small holds =
     let b = has_weaver w in
@@ -114,7 +114,7 @@ none_only_if true parts all h = none_is parts all h
 none_only_if false parts all h = none_in Weaver h
 
 -- a user has no slot beside its protectors
-user_has_none : (armed : Option Armed) (row : UserRow) → ¬ Contains (user_parts armed row) Weaver
+user_has_none : (armed : Option Arming) (row : UserRow) → ¬ Contains (user_parts armed row) Weaver
 user_has_none armed row h =
     let secure = only_if (has_secure row) (Handle ∷ []) in
     let escrow = only_if row.escrow (E0 ∷ P1 ∷ []) in
@@ -131,16 +131,16 @@ user_has_none armed row h =
         behind (inr m) = none_only_if (is_armed armed row.user) (Resume ∷ []) (λ e. absurd (cc), tt) m
 
 -- the files of the user itself
-abbrev pub own_files : Option Armed → UserRow → List PartOf
+abbrev pub own_files : Option Arming → UserRow → List PartOf
 own_files armed row = parts_of row.user 0 (user_parts armed row)
 
-pub own_has_none : (armed : Option Armed) (row : UserRow) (name : PartOf) → name.part ≡ Weaver → ¬ Contains (own_files armed row) name
+pub own_has_none : (armed : Option Arming) (row : UserRow) (name : PartOf) → name.part ≡ Weaver → ¬ Contains (own_files armed row) name
 own_has_none armed row name part k =
     let found = of_map (λ (x : FilePart). record { user = row.user; id = 0; part = x }) (user_parts armed row) name k in
     let is : found.0 ≡ Weaver = ap (λ (n : PartOf). n.part) found.2 ∙ part in
     user_has_none armed row (subst (Contains (user_parts armed row)) is found.1)
 
-module _ (b : Bool) (armed : Option Armed) (row : UserRow) where
+module _ (b : Bool) (armed : Option Arming) (row : UserRow) where
   abbrev credential_files : List PartOf
   credential_files = parts_of row.user row.protector (credential_parts b row.kind)
 

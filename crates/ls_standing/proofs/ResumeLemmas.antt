@@ -1,9 +1,9 @@
 -- What the taking of the resume key leaves of what a world stands for.
-use Rattle.std.proofs.Common.{◌≡◌, ◌⊎◌, inl, inr, ⊎_elim, ℕ, Bool, true, false, List, [], ◌∷◌, Option, None, Some, refl, sym, subst}
+use Rattle.std.proofs.Common.{◌≡◌, ◌⊎◌, inl, inr, ⊎_elim, ℕ, Bool, true, false, List, [], ◌∷◌, Option, None, refl, sym, subst}
 use Rattle.std.specs.Prelude.{MatchBool}
 use Rattle.std.specs.List.{AllZip}
 use Rattle.ls_record.specs.declared.row.UserRow.{UserRow}
-use Rattle.ls_record.specs.declared.row.Armed.{Armed}
+use Rattle.ls_arming.specs.declared.arming.Arming.{Arming}
 use Rattle.ls_naming.specs.Named.{is_armed}
 use Rattle.ls_naming.specs.Current.{Settled}
 use Rattle.ls_board.specs.declared.action.Action.TheVariants.{ResumeTake}
@@ -14,16 +14,12 @@ use Rattle.ls_vault.specs.declared.user.User.{User}
 use Rattle.ls_vault.specs.declared.vault.Vault.{Vault}
 use Rattle.ls_sealing.specs.Protectors.{Held, where_it_has}
 use Rattle.ls_standing.specs.Named.{UserHeld, held_of_row}
-use Rattle.ls_standing.specs.Standing.{HoldsEscrow, HoldsHandle, HoldsUser, HoldsResume, arming_of, StandsDurably}
+use Rattle.ls_standing.specs.Standing.{HoldsEscrow, HoldsHandle, HoldsUser, HoldsResume, StandsDurably}
 use Rattle.ls_standing.proofs.QuietLemmas.{durably_left}
 
 no_key : (b : Bool) → where_it_has {X = List ℕ} b None ≡ None
 no_key true = refl
 no_key false = refl
-
-no_arming : (armed : Option Armed) → None ≡ arming_of armed None
-no_arming None = refl
-no_arming (Some a) = refl
 
 without_key : (h : UserHeld) (u : User) → h.cell ≡ None → HoldsResume h u
 without_key h u none = subst (λ (o : Option (List ℕ)). HoldsResume (record h { cell = o }) u) (sym none) tt
@@ -36,7 +32,7 @@ module _ (h : UserHeld) (cell : Option (List ℕ)) (u : User) where
   handle_holds : HoldsHandle h u → HoldsHandle (record h { cell = cell }) u
   handle_holds holds = record { handle = holds.handle; counter = holds.counter }
 
-module _ (w : World) (armed : Option Armed) where
+module _ (w : World) (armed : Option Arming) where
   user_holds : (row : UserRow) (u : User) → HoldsUser row (held_of_row w armed row) u → HoldsUser row (held_of_row (after w ResumeTake 0) armed row) u
   user_holds row u holds = let h = (held_of_row w armed row).user in let none : Option (List ℕ) = where_it_has (is_armed armed row.user) None in record {
     says = holds.says;
@@ -67,7 +63,7 @@ module _ (s : Settled) (v : Vault) where
       holds = record {
         users = users_hold w s.rec.armed s.rec.users v.users stands.stands.holds.users;
         files = stands.stands.holds.files;
-        arming = no_arming s.rec.armed;
+        arming = refl;
       };
     };
     settings = stands.settings;

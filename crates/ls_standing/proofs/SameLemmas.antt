@@ -5,7 +5,7 @@ use Rattle.ls_formats.specs.declared.name.FileName.TheVariants.{Protector as Pro
 use Rattle.ls_formats.specs.declared.side.Side.TheVariants.{First, Second}
 use Rattle.ls_formats.specs.PartNames.{PartOf, part_name_text, settings_text}
 use Rattle.ls_formats.proofs.NameLemmas.{first_again, second_again}
-use Rattle.ls_record.specs.declared.row.Armed.{Armed}
+use Rattle.ls_arming.specs.declared.arming.Arming.{Arming}
 use Rattle.ls_record.specs.Rows.{Rec}
 use Rattle.ls_naming.specs.Named.{NamesFile, NamesSlot, NamesEnrolled}
 use Rattle.ls_naming.proofs.NamingLemmas.{slots_follow}
@@ -88,7 +88,7 @@ settings_trans u v w first second = record {
 
 -- ---- what differs in other things
 
-no_arming : (r : Rec) (armed : Armed) → r.armed ≡ Some armed → ¬ (r.armed ≡ None)
+no_arming : (r : Rec) (armed : Arming) → r.armed ≡ Some armed → ¬ (r.armed ≡ None)
 no_arming r armed is none = absurd (cc)
 
 module _ (w mid : World) (r : Rec) (same : SameBut (unnamed w r) w mid) where

@@ -4,7 +4,7 @@ use Rattle.std.specs.List.{list_any}
 use Rattle.ls_formats.specs.declared.part.FilePart.{FilePart}
 use Rattle.ls_formats.specs.PartNames.{part_name_text}
 use Rattle.ls_record.specs.declared.row.UserRow.{UserRow}
-use Rattle.ls_record.specs.declared.row.Armed.{Armed}
+use Rattle.ls_arming.specs.declared.arming.Arming.{Arming}
 use Rattle.ls_naming.specs.Named.{is_armed, has_secure, user_parts}
 use Rattle.ls_naming.specs.Membership.{same_part}
 use Rattle.ls_board.specs.declared.devices.Counter.{Counter}
@@ -39,14 +39,14 @@ pub record UserHeld : Type 0 where
   pub cell : Option (List ℕ)
 
 -- the user has this file
-abbrev pub is_its_part : Option Armed → UserRow → FilePart → Bool
+abbrev pub is_its_part : Option Arming → UserRow → FilePart → Bool
 is_its_part armed row part = list_any (same_part part) (user_parts armed row)
 
 -- the file of a user's part, whose name has the id 0
 abbrev pub user_file : World → UserRow → FilePart → Option (List ℕ)
 user_file w row part = file_at w (part_name_text (record { user = row.user; id = 0; part = part }))
 
-abbrev pub held_of_user : World → Option Armed → UserRow → UserHeld
+abbrev pub held_of_user : World → Option Arming → UserRow → UserHeld
 held_of_user w armed row = record {
   files = λ part. where_it_has (is_its_part armed row part) (user_file w row part);
   counter = where_it_has (has_secure row) (record_at w.gk row.secure);
@@ -64,7 +64,7 @@ pub record RowHeld : Type 0 where
   -- of each token, in the order of the row
   pub tokens : List Held
 
-abbrev pub held_of_row : World → Option Armed → UserRow → RowHeld
+abbrev pub held_of_row : World → Option Arming → UserRow → RowHeld
 held_of_row w armed row = record {
   user = held_of_user w armed row;
   credential = held w (credential_of row);

@@ -14,7 +14,7 @@ use Rattle.ls_formats.specs.declared.part.FilePart.{FilePart}
 use Rattle.ls_formats.specs.declared.part.FilePart.TheVariants.{SpBlob, Pwd, Secdis, Weaver, Metrics, Handle, E0, P1, Resume}
 use Rattle.ls_formats.specs.PartNames.{PartOf, part_name_text}
 use Rattle.ls_record.specs.declared.row.UserRow.{UserRow}
-use Rattle.ls_record.specs.declared.row.Armed.{Armed}
+use Rattle.ls_arming.specs.declared.arming.Arming.{Arming}
 use Rattle.ls_record.specs.Rows.{Rec, has}
 use Rattle.ls_naming.specs.Named.{row_files}
 use Rattle.ls_naming.specs.Current.{Foreign}
@@ -109,7 +109,7 @@ file_fault b row name bytes =
 -- ---- all files
 
 -- the files that a record names, each with the row that names it
-abbrev pub files_of_rows : Bool → Option Armed → List UserRow → List (UserRow × PartOf)
+abbrev pub files_of_rows : Bool → Option Arming → List UserRow → List (UserRow × PartOf)
 files_of_rows weaver armed rows =
     flat_map (λ row. map (λ name. (row, name)) (row_files weaver armed row)) rows
 

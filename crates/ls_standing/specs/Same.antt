@@ -2,7 +2,7 @@
 use Rattle.std.specs.Prelude.{◌≡◌, ℕ, length, Some, None}
 use Rattle.ls_formats.specs.declared.side.Side.{Side}
 use Rattle.ls_formats.specs.PartNames.{PartOf, part_name_text, settings_text}
-use Rattle.ls_record.specs.declared.row.Armed.{Armed}
+use Rattle.ls_arming.specs.declared.arming.Arming.{Arming}
 use Rattle.ls_record.specs.Rows.{Rec}
 use Rattle.ls_naming.specs.Named.{NamesFile, NamesSlot, NamesKey, NamesEnrolled}
 use Rattle.ls_board.specs.declared.world.World.{World}
@@ -26,7 +26,7 @@ pub record SameNamed (r : Rec) (old new : World) : Type 0 where
       → record_at new.gk sid ≡ record_at old.gk sid
   pub device : new.gk_key ≡ old.gk_key
   pub key : (alias : ℕ) → NamesKey r alias → key_at new.keys alias ≡ key_at old.keys alias
-  pub cell : (armed : Armed) → r.armed ≡ Some armed → new.cell ≡ old.cell
+  pub cell : (armed : Arming) → r.armed ≡ Some armed → new.cell ≡ old.cell
 
 -- The worlds have the same settings files, and none is touched that wasn't.
 pub record SameSettings (old new : World) : Type 0 where

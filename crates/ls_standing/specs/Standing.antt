@@ -7,7 +7,6 @@ use Rattle.ls_formats.specs.declared.part.FilePart.TheVariants.{Handle, E0, P1, 
 use Rattle.ls_formats.specs.declared.side.Side.{Side}
 use Rattle.ls_formats.specs.PartNames.{PartOf, part_name_text, settings_text}
 use Rattle.ls_record.specs.declared.row.UserRow.{UserRow}
-use Rattle.ls_record.specs.declared.row.Armed.{Armed}
 use Rattle.ls_record.specs.Rows.{Rec}
 use Rattle.ls_secret.specs.declared.personal.Personal.TheVariants.{SpGkAuthentication}
 use Rattle.ls_secret.specs.Derivation.{subkey_of}
@@ -21,7 +20,7 @@ use Rattle.ls_board.specs.Gatekeeper.{signed, salt_of, no_fails}
 use Rattle.ls_settings.specs.Loaded.{IsWhole, AreUntouched}
 use Rattle.ls_vault.specs.declared.user.User.{User}
 use Rattle.ls_vault.specs.declared.vault.Vault.{Vault}
-use Rattle.ls_vault.specs.declared.vault.Arming.{Arming}
+use Rattle.ls_arming.specs.declared.arming.Arming.{Arming}
 use Rattle.ls_vault.specs.Revealed.{shown_length}
 use Rattle.ls_sealing.specs.Chain.{opened_resume}
 use Rattle.ls_sealing.specs.Protectors.{Held, failures, has_weaver}
@@ -77,16 +76,15 @@ pub record HoldsUser (row : UserRow) (h : RowHeld) (u : User) : Type 0 where
 -- ---- all users
 
 -- what is armed: what the record says, as long as the cell holds a key
-abbrev pub arming_of : Option Armed → Option (List ℕ) → Option Arming
-arming_of None cell = None
-arming_of (Some a) None = None
-arming_of (Some a) (Some once) = Some (record { boot = a.boot; users = a.users })
+abbrev pub kept_arming : Option Arming → Option (List ℕ) → Option Arming
+kept_arming armed None = None
+kept_arming armed (Some once) = armed
 
 -- The files, slots, keys and Gatekeeper records that a record names are those of this vault.
 pub record Holds (w : World) (r : Rec) (v : Vault) : Type 0 where
   pub users : AllZip (λ row u. HoldsUser row (held_of_row w r.armed row) u) r.users v.users
   pub files : first_foreign w r ≡ None
-  pub arming : v.arming ≡ arming_of r.armed w.cell
+  pub arming : v.arming ≡ kept_arming r.armed w.cell
 
 -- ---- a world
 

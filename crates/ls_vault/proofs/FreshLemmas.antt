@@ -1,7 +1,7 @@
 -- One step of the search for a number that isn't taken.
 use Rattle.std.proofs.Common.{◌≡◌, ◌+◌, ◌%◌, ◌^◌, ℕ, zero, suc, true, false, cond, List, refl, ◌∙◌, ap}
 use Rattle.ls_vault.specs.Fresh.{first_free}
-use Rattle.ls_vault.specs.Users.{contains}
+use Rattle.ls_arming.specs.Numbers.{contains}
 
 pub free_here : (k d : ℕ) (taken : List ℕ) → contains taken d ≡ false → first_free k d taken ≡ d
 unfolding first_free

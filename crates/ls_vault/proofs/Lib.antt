@@ -1,4 +1,4 @@
-mod FreshLemmas
+pub mod FreshLemmas
 mod InsertLemmas
 mod PendingLemmas
 pub mod ScriptLemmas

@@ -1,98 +1,14 @@
--- Parting a script at 0x0A, and the states after its lines.
-use Rattle.std.proofs.Common.{◌≡◌, ◌<◌, ◌≤◌, ◌+◌, ◌++◌, ℕ, suc, true, false, cond, List, [], ◌∷◌, length, take, drop, refl, sym, ◌∙◌, ap, subst, arith, append_assoc, one-add, add-one, ◌-◌}
-use Rattle.std.specs.Prelude.{◌==◌, not, flat_map, Result, Ok, Err}
-use Rattle.std.specs.List.{AllByRecursion, prefix_len}
-use Rattle.std.proofs.lemmas.List.{take_rest}
-use Rattle.std.proofs.lemmas.Bool.{eqb-true}
+-- The states after the lines of a script.
+use Rattle.std.proofs.Common.{◌≡◌, ◌++◌, ℕ, true, false, cond, List, [], ◌∷◌, length, refl, sym, ◌∙◌, ap}
+use Rattle.std.specs.Prelude.{flat_map, Result, Ok, Err}
 use Rattle.ls_grammar.specs.declared.fault.LineFault.{LineFault}
+use Rattle.ls_lines.specs.Lines.{lines_of}
 use Rattle.ls_script.specs.Commands.{is_refusal}
 use Rattle.ls_script.specs.ScriptReading.{reading_of}
 use Rattle.ls_script.specs.declared.command.Command.{Command}
 use Rattle.ls_script.specs.declared.script_line.ScriptLine.{ScriptLine}
-use Rattle.ls_vault.specs.Script.{Parting, parted, with_first, last_line, lines_of}
 use Rattle.ls_vault.specs.Script.{Stage, Entry, put_first, entry_of, stage_after, carried, commands_of, served_as, served_text, told_lines, begun, told, after}
 use Rattle.ls_vault.specs.declared.state.State.{State}
-
-with_first_front : (b : ℕ) (lines : List (List ℕ)) (rest : List ℕ) (more : List (List ℕ)) (last : List ℕ)
-    → with_first b (lines ++ rest ∷ more) last
-    ≡ record { whole = (with_first b lines rest).whole ++ (with_first b lines rest).rest ∷ more; rest = last }
-with_first_front b [] rest more last = refl
-with_first_front b (line ∷ lines) rest more last = refl
-
--- a 0x0A ends what stood behind the last one
-pub parted_line : (s more : List ℕ)
-    → parted (s ++ 10 ∷ more) ≡ record { whole = (parted s).whole ++ (parted s).rest ∷ (parted more).whole; rest = (parted more).rest }
-parted_line [] more = refl
-parted_line (b ∷ s) more = elim (b == 10) as (λ t. cond t
-    (record { whole = [] ∷ (parted (s ++ 10 ∷ more)).whole; rest = (parted (s ++ 10 ∷ more)).rest })
-    (with_first b (parted (s ++ 10 ∷ more)).whole (parted (s ++ 10 ∷ more)).rest)
-    ≡ record {
-      whole = (cond t (record { whole = [] ∷ (parted s).whole; rest = (parted s).rest }) (with_first b (parted s).whole (parted s).rest)).whole
-          ++ (cond t (record { whole = [] ∷ (parted s).whole; rest = (parted s).rest }) (with_first b (parted s).whole (parted s).rest)).rest ∷ (parted more).whole;
-      rest = (parted more).rest;
-    }) [
-      | true ↦ ap (λ (p : Parting). record { whole = [] ∷ p.whole; rest = p.rest }) (parted_line s more)
-      | false ↦ ap (λ (p : Parting). with_first b p.whole p.rest) (parted_line s more)
-          ∙ with_first_front b (parted s).whole (parted s).rest (parted more).whole (parted more).rest
-    ]
-
--- what has no 0x0A is no whole line
-pub parted_rest : (s : List ℕ) → AllByRecursion (λ b. (b == 10) ≡ false) s → parted s ≡ record { whole = []; rest = s }
-parted_rest [] none = refl
-parted_rest (b ∷ s) none = rw none.0 (ap (λ (p : Parting). with_first b p.whole p.rest) (parted_rest s none.1))
-
--- the line that a 0x0A ends comes next
-pub next_line : (s more : List ℕ) → lines_of (s ++ 10 ∷ more) ≡ (parted s).whole ++ (parted s).rest ∷ lines_of more
-next_line s more =
-    ap (λ (p : Parting). p.whole ++ last_line p.rest) (parted_line s more)
-    ∙ append_assoc (parted s).whole ((parted s).rest ∷ (parted more).whole) (last_line (parted more).rest)
-
--- what stands behind the last 0x0A is the last line, if there is something
-pub last_lines : (rest : List ℕ) → 0 < length rest → last_line rest ≡ rest ∷ []
-last_lines [] some = absurd (omega arith)
-last_lines (b ∷ rest) some = refl
-
--- ---- the first line of a script
-
-pub first_of : (line more : List ℕ) → AllByRecursion (λ b. (b == 10) ≡ false) line → lines_of (line ++ 10 ∷ more) ≡ line ∷ lines_of more
-first_of line more none = next_line line more
-    ∙ ap (λ (p : Parting). p.whole ++ p.rest ∷ lines_of more) (parted_rest line none)
-
-pub only_line : (line : List ℕ) → AllByRecursion (λ b. (b == 10) ≡ false) line → 0 < length line → lines_of line ≡ line ∷ []
-only_line line none some = ap (λ (p : Parting). p.whole ++ last_line p.rest) (parted_rest line none) ∙ last_lines line some
-
--- the script is cut at its first 0x0A
-cut_at : (s : List ℕ) → prefix_len (λ b. not (b == 10)) s < length s
-    → AllByRecursion (λ b. (b == 10) ≡ false) (take (prefix_len (λ b. not (b == 10)) s) s)
-    × (s ≡ take (prefix_len (λ b. not (b == 10)) s) s ++ 10 ∷ drop (prefix_len (λ b. not (b == 10)) s + 1) s)
-cut_at [] within = absurd (omega arith)
-cut_at (b ∷ s) within = elim (b == 10) as (λ t. (b == 10) ≡ t → cond (not t) (1 + prefix_len (λ b. not (b == 10)) s) 0 < suc (length s)
-    → AllByRecursion (λ b. (b == 10) ≡ false) (take (cond (not t) (1 + prefix_len (λ b. not (b == 10)) s) 0) (b ∷ s))
-    × (b ∷ s ≡ take (cond (not t) (1 + prefix_len (λ b. not (b == 10)) s) 0) (b ∷ s) ++ 10 ∷ drop (cond (not t) (1 + prefix_len (λ b. not (b == 10)) s) 0 + 1) (b ∷ s))) [
-      | true ↦ λ is below. (tt, ap (λ (x : ℕ). x ∷ s) (eqb-true b 10 is))
-      | false ↦ λ is below.
-          let more = cut_at s (omega arith) in
-          rw (one-add, add-one) ((is, more.0), ap (λ (l : List ℕ). b ∷ l) (rw add-one at more.1))
-    ] refl within
-
-pub first_cut : (s : List ℕ) (n : ℕ) → n ≡ prefix_len (λ b. not (b == 10)) s → n < length s
-    → lines_of s ≡ take n s ∷ lines_of (take (length s - (n + 1)) (drop (n + 1) s))
-first_cut s n is within =
-    let cut = cut_at s (omega arith) in
-    let line = subst (λ (k : ℕ). AllByRecursion (λ b. (b == 10) ≡ false) (take k s)) (sym is) cut.0 in
-    let same : s ≡ take n s ++ 10 ∷ drop (n + 1) s = subst (λ (k : ℕ). s ≡ take k s ++ 10 ∷ drop (k + 1) s) (sym is) cut.1 in
-    ap lines_of same ∙ first_of (take n s) (drop (n + 1) s) line ∙ ap (λ (l : List ℕ). take n s ∷ lines_of l) (sym (take_rest s (n + 1)))
-
--- a script with no 0x0A
-uncut : (s : List ℕ) → length s ≤ prefix_len (λ b. not (b == 10)) s → AllByRecursion (λ b. (b == 10) ≡ false) s
-uncut [] whole = tt
-uncut (b ∷ s) whole = elim (b == 10) as (λ t. (b == 10) ≡ t → suc (length s) ≤ cond (not t) (1 + prefix_len (λ b. not (b == 10)) s) 0 → ((b == 10) ≡ false) × AllByRecursion (λ b. (b == 10) ≡ false) s) [
-  | true ↦ λ is long. absurd (omega arith)
-  | false ↦ λ is long. (is, uncut s (omega arith))
-] refl whole
-
-pub first_uncut : (s : List ℕ) (n : ℕ) → n ≡ prefix_len (λ b. not (b == 10)) s → length s ≤ n → 0 < length s → lines_of s ≡ s ∷ []
-first_uncut s n is whole some = only_line s (uncut s (omega arith)) some
 
 -- ---- commands, one after another
 

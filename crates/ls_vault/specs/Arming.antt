@@ -6,11 +6,11 @@ use Rattle.ls_script.specs.declared.reply.Refusal.TheVariants.{Expired}
 use Rattle.ls_script.specs.declared.reply.Reply.TheVariants.{Resumed}
 use Rattle.ls_vault.specs.declared.state.Outcome.{Outcome}
 use Rattle.ls_vault.specs.declared.state.State.{State}
-use Rattle.ls_vault.specs.declared.vault.Arming.{Arming}
+use Rattle.ls_arming.specs.declared.arming.Arming.{Arming}
 use Rattle.ls_vault.specs.Limits.{last_of_32, is_worn}
 use Rattle.ls_vault.specs.Revealed.{all_revealed}
 use Rattle.ls_vault.specs.States.{with_arming, with_dead, with_session, committed, fine, refused}
-use Rattle.ls_vault.specs.Users.{with_numbers}
+use Rattle.ls_arming.specs.Numbers.{with_numbers}
 
 -- ---- preparing
 

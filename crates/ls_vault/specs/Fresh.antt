@@ -1,7 +1,7 @@
 -- Numbers that aren't taken yet.
 use Rattle.std.specs.Prelude.{ℕ, zero, suc, ◌+◌, ◌*◌, ◌/◌, ◌%◌, ◌^◌, if◌then◌else◌, List, length}
 use Rattle.byteorder.specs.Endian.{big_number}
-use Rattle.ls_vault.specs.Users.{contains}
+use Rattle.ls_arming.specs.Numbers.{contains}
 
 -- the number with its lowest bit set
 abbrev pub odd : ℕ → ℕ

@@ -13,11 +13,12 @@ use Rattle.ls_script.specs.declared.reply.Refusal.TheVariants.{NotArmed, Worn}
 use Rattle.ls_vault.specs.declared.state.State.{State}
 use Rattle.ls_vault.specs.declared.token.Token.{Token}
 use Rattle.ls_vault.specs.declared.user.User.{User}
-use Rattle.ls_vault.specs.declared.vault.Arming.{Arming}
+use Rattle.ls_arming.specs.declared.arming.Arming.{Arming}
 use Rattle.ls_vault.specs.Kinds.{same_kind}
 use Rattle.ls_vault.specs.Limits.{most_users, most_tokens, is_worn, is_full, token_count}
 use Rattle.ls_vault.specs.Tokens.{token_of, is_active, is_pending}
-use Rattle.ls_vault.specs.Users.{contains, user_of, is_user}
+use Rattle.ls_vault.specs.Users.{user_of, is_user}
+use Rattle.ls_arming.specs.Numbers.{contains}
 
 -- the user is opened
 abbrev pub is_opened : State → ℕ → Bool

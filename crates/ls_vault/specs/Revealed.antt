@@ -1,8 +1,7 @@
 -- What is told of a user.
 use Rattle.std.specs.Prelude.{ℕ, ◌&&◌, nat_le, if◌then◌else◌, List, length, Option, Some, None}
 use Rattle.std.specs.Prelude.{filter_map, option_map}
-use Rattle.ls_credential.specs.declared.metrics.Metrics.{Metrics}
-use Rattle.ls_credential.specs.Counts.{metrics_of}
+use Rattle.ls_credential.specs.Counts.{KindAndCounts, metrics_of}
 use Rattle.ls_credential.specs.Rules.{KindAndText}
 use Rattle.ls_script.specs.declared.reply.Revealed.{Revealed}
 use Rattle.ls_secret.specs.Derivation.{derived_of}
@@ -11,7 +10,7 @@ use Rattle.ls_vault.specs.Kinds.{is_empty, is_pin}
 use Rattle.ls_vault.specs.Users.{user_of}
 
 -- what is counted of a credential, none where there is none
-abbrev pub shown_metrics : KindAndText → Option Metrics
+abbrev pub shown_metrics : KindAndText → Option KindAndCounts
 shown_metrics c = if is_empty c.kind then None else Some (metrics_of c)
 
 -- what an unlock reveals: the number, the keys that are derived from the secret, the secure id, and

@@ -1,10 +1,11 @@
 -- A script: its lines, their replies, and the state after each command.
-use Rattle.std.specs.Prelude.{ℕ, zero, suc, ◌++◌, ◌==◌, Bool, false, if◌then◌else◌, List, [], ◌∷◌}
-use Rattle.std.specs.Prelude.{length, take, drop, map, flat_map, count_by, Option, Some}
+use Rattle.std.specs.Prelude.{ℕ, zero, suc, Bool, false, if◌then◌else◌, List, [], ◌∷◌}
+use Rattle.std.specs.Prelude.{length, take, drop, map, flat_map, Option, Some}
 use Rattle.std.specs.Prelude.{None, Result, Ok, Err, unwrap_or, option_map}
 use Rattle.std.specs.Prelude.{option_and_then}
 use Rattle.ls_credential.specs.declared.kind.Kind.{Kind}
 use Rattle.ls_grammar.specs.declared.fault.LineFault.{LineFault}
+use Rattle.ls_lines.specs.Lines.{lines_of, ended_count}
 use Rattle.ls_script.specs.Commands.{command_list, token_user, line_reply, is_refusal}
 use Rattle.ls_script.specs.ReplyText.{reply_text, fault_text}
 use Rattle.ls_script.specs.declared.command.Command.{Command}
@@ -22,33 +23,6 @@ use Rattle.ls_vault.specs.Users.{user_of}
 use Rattle.ls_vault.specs.declared.state.Outcome.{Outcome}
 use Rattle.ls_vault.specs.declared.state.State.{State}
 use Rattle.ls_vault.specs.declared.user.User.{User}
-
--- ---- lines
-
--- a script parted at 0x0A: the lines that a 0x0A ends, and what stands behind the last of them
-pub record Parting : Type 0 where
-  pub whole : List (List ℕ)
-  pub rest : List ℕ
-
--- with one byte more at the front, which is no 0x0A
-abbrev pub with_first : ℕ → List (List ℕ) → List ℕ → Parting
-with_first b [] rest = record { whole = []; rest = b ∷ rest }
-with_first b (line ∷ lines) rest = record { whole = (b ∷ line) ∷ lines; rest = rest }
-
-abbrev pub parted : List ℕ → Parting
-parted [] = record { whole = []; rest = [] }
-parted (b ∷ script) =
-    if b == 10 then record { whole = [] ∷ (parted script).whole; rest = (parted script).rest }
-    else with_first b (parted script).whole (parted script).rest
-
--- a last line that no 0x0A ends is a line if it isn't empty
-abbrev pub last_line : List ℕ → List (List ℕ)
-last_line [] = []
-last_line (b ∷ rest) = (b ∷ rest) ∷ []
-
--- the lines of a script
-abbrev pub lines_of : List ℕ → List (List ℕ)
-lines_of script = (parted script).whole ++ last_line (parted script).rest
 
 -- ---- moments and noise
 
@@ -191,7 +165,7 @@ after s (entry ∷ entries) (suc count) = after entry.state entries count
 abbrev pub acknowledged : List ℕ → ℕ → State → List ℕ → List ℕ → List ℕ → ℕ
 acknowledged said slots s script moments noise =
     length (flat_map (λ line. line.entries)
-    (take (count_by (λ b. b == 10) said)
+    (take (ended_count said)
     (told_lines slots (begun s moments noise) (lines_of script))))
 
 -- a command of a script, as an event of a history

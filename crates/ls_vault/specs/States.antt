@@ -8,7 +8,7 @@ use Rattle.ls_vault.specs.declared.state.Outcome.{Outcome}
 use Rattle.ls_vault.specs.declared.state.State.{State}
 use Rattle.ls_vault.specs.declared.token.PendingToken.{PendingToken}
 use Rattle.ls_vault.specs.declared.user.User.{User}
-use Rattle.ls_vault.specs.declared.vault.Arming.{Arming}
+use Rattle.ls_arming.specs.declared.arming.Arming.{Arming}
 
 abbrev pub with_users : State → List User → State
 with_users s users = record s { vault = record s.vault { users = users } }

@@ -8,7 +8,8 @@ use Rattle.ls_vault.specs.declared.state.State.{State}
 use Rattle.ls_vault.specs.declared.user.User.{User}
 use Rattle.ls_vault.specs.Revealed.{revealed}
 use Rattle.ls_vault.specs.States.{with_users, with_session}
-use Rattle.ls_vault.specs.Users.{with_number, without_number, changed}
+use Rattle.ls_vault.specs.Users.{changed}
+use Rattle.ls_arming.specs.Numbers.{with_number, without_number}
 use Rattle.ls_weaver.specs.Throttle.{timeout, more_fails, rest_until}
 
 -- the user is opened, and captured while an arming is prepared

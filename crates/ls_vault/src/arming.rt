@@ -1,18 +1,16 @@
 //! Users are armed, and opened again after a restart.
-ghost use Rattle.std.specs.Prelude.{◌≡◌, ◌<◌, ◌+◌, ◌^◌, IsFalse, List, ℕ, [], Option, None, IfOk};
-ghost use Rattle.ls_vault.specs.Arming.{unarmed, prepared, armed, is_good, taken, all_opened};
+ghost use Rattle.std.specs.Prelude.{◌≡◌, ◌<◌, ◌+◌, ◌^◌, None, IfOk};
+ghost use Rattle.ls_vault.specs.Arming.{unarmed, prepared, armed, is_good, taken};
 ghost use Rattle.ls_vault.specs.Arming.{resumed};
 ghost use Rattle.ls_vault.specs.Limits.{is_worn};
-ghost use Rattle.ls_vault.specs.States.{with_arming, refused};
+ghost use Rattle.ls_vault.specs.States.{refused};
 ghost use Rattle.ls_script.specs.declared.reply.Refusal.TheVariants as refusal;
 
 use crate::limits::is_worn;
-use crate::numbers::add_numbers;
 use crate::revealed::all_revealed;
 use crate::state::{Outcome, State};
-use crate::table::Table;
 use crate::user_changes::committed;
-use crate::vault::Arming;
+use ls_arming::{Arming, UserNumbers};
 use ls_bytes::Memory;
 use ls_script::{Refusal, Reply};
 use std::alloc::Global;
@@ -27,7 +25,7 @@ fn unarmed(alloc: Global, state: State) -> State
             if state.books.dead.as_slice().is_empty() || is_worn(&state) {
                 return state;
             }
-            state.books.dead = Table::new(alloc);
+            state.books.dead = UserNumbers::new(alloc);
             committed(state)
         }
         Some(arming) => {
@@ -35,7 +33,7 @@ fn unarmed(alloc: Global, state: State) -> State
                 state.books.dead = arming.users;
                 return state;
             }
-            state.books.dead = Table::new(alloc);
+            state.books.dead = UserNumbers::new(alloc);
             committed(state)
         }
     }
@@ -47,7 +45,7 @@ pub(crate) fn prepared(alloc: Global, state: State) -> State
 {
     let mut state = unarmed(alloc, state);
     state.session.prepared = true;
-    state.session.captured = Table::new(alloc);
+    state.session.captured = UserNumbers::new(alloc);
     state
 }
 
@@ -57,7 +55,7 @@ pub(crate) fn armed(alloc: Global, state: State) -> State
     ensures same { result ≡ armed state }
 {
     let mut state = state;
-    let users = std::mem::replace(&mut state.session.captured, Table::new(alloc));
+    let users = std::mem::replace(&mut state.session.captured, UserNumbers::new(alloc));
     state.session.prepared = false;
     state.vault.arming = Some(Arming {
         boot: state.session.boot,
@@ -87,7 +85,7 @@ pub(crate) fn resumed(alloc: Global, state: State) -> Result<Outcome, Memory>
     if is_good(arming.boot, state.session.boot) {
         let users = state.vault.users.as_slice();
         let reply = Reply::Resumed(all_revealed(alloc, users, arming.users.as_slice())?);
-        add_numbers(&mut state.session.opened, arming.users.as_slice())?;
+        state.session.opened.add_all(arming.users.as_slice())?;
         let state = ended(state, arming.users);
         Ok(Outcome { reply, state })
     } else {
@@ -109,7 +107,7 @@ fn expired(state: State, arming: Arming) -> Outcome
 }
 
 /// The arming of these users was taken away: that is kept, or they are dead.
-fn ended(state: State, users: Table<u32>) -> State
+fn ended(state: State, users: UserNumbers) -> State
     ensures same { state.vault.arming ≡ None → result ≡ taken state users }
 {
     let mut state = state;

@@ -3,7 +3,7 @@ ghost use Rattle.std.specs.Prelude.{◌≡◌, ◌≤◌, ◌++◌, length, map,
 ghost use Rattle.ls_vault.specs.Credentials.{secure_ids};
 ghost use Rattle.ls_vault.specs.Fresh.{first_free, fresh, drawn_number};
 ghost use Rattle.ls_vault.specs.Tokens.{token_ids};
-ghost use Rattle.ls_vault.specs.Users.{contains};
+ghost use Rattle.ls_arming.specs.Numbers.{contains};
 
 use crate::state::State;
 use crate::table::Table;

@@ -1,7 +1,6 @@
 //! One step of the vault machine.
-ghost use Rattle.std.specs.Prelude.{◌≡◌, [], ◌<◌, ◌≤◌, ◌+◌, ◌^◌, ℕ, List, map, length, take, IfOk};
+ghost use Rattle.std.specs.Prelude.{◌≡◌, [], ◌<◌, ◌≤◌, ◌+◌, ◌^◌, map, length, IfOk};
 ghost use Rattle.std.specs.Prelude.{None};
-ghost use Rattle.std.specs.Option.{option_copied};
 ghost use Rattle.ls_script.specs.declared.command.Command.TheVariants as command;
 ghost use Rattle.ls_vault.specs.Drawn.{effect_len, drawn_len};
 ghost use Rattle.ls_vault.specs.Effects.{status_row, auto_set, effect};
@@ -27,6 +26,7 @@ use crate::user::User;
 use crate::user_changes::{added, committed, dropped};
 use crate::users::{set_auto, user_of};
 use crate::vault::Books;
+use ls_arming::UserNumbers;
 use ls_bytes::{Bytes, Memory, Rows, UserList};
 use ls_credential::Credential;
 use ls_script::{Command, Refusal, Reply, StatusRow};
@@ -256,10 +256,10 @@ pub fn restart(alloc: Global, state: State, boot: u32, books: Books) -> State
     state.books = books;
     state.session = SessionState {
         boot,
-        opened: Table::new(alloc),
+        opened: UserNumbers::new(alloc),
         pending: Table::new(alloc),
         prepared: false,
-        captured: Table::new(alloc),
+        captured: UserNumbers::new(alloc),
     };
     state
 }

@@ -11,7 +11,6 @@ ghost use Rattle.ls_vault.specs.Users.{user_of};
 ghost use Rattle.ls_vault.specs.Tokens.{token_of, is_active, is_pending};
 
 use crate::limits::{has_most_tokens, is_full, is_worn};
-use crate::numbers::contains;
 use crate::state::State;
 use crate::token::Token;
 use crate::tokens::{has_pending, token_of};
@@ -33,7 +32,7 @@ pub(crate) fn is_same_kind(a: Kind, b: Kind) -> bool
 pub(crate) fn is_opened(state: &State, user: u32) -> bool
     ensures same { result ≡ is_opened state.now user }
 {
-    contains(state.session.opened.as_slice(), user)
+    state.session.opened.contains(user)
 }
 
 /// Whether the user has a pending token with this id.

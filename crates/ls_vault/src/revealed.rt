@@ -40,16 +40,24 @@ fn shown_metrics(credential: &Credential) -> Option<Metrics>
     }
 }
 
-/// What an unlock reveals of a user.
-pub(crate) fn revealed(user: &User) -> Revealed
+/// What an unlock reveals of a user with these metrics.
+fn revealed_with(user: &User, metrics: Option<Metrics>) -> Revealed
+    requires metrics { metrics ≡ shown_metrics user.now.credential }
     ensures same { result ≡ revealed user.now }
 {
     Revealed {
         user: user.number,
         derived: user.secret.derived(),
         secure: user.secure,
-        metrics: shown_metrics(&user.credential),
+        metrics,
     }
+}
+
+/// What an unlock reveals of a user.
+pub(crate) fn revealed(user: &User) -> Revealed
+    ensures same { result ≡ revealed user.now }
+{
+    revealed_with(user, shown_metrics(&user.credential))
 }
 
 /// The same of each of these users.
@@ -63,7 +71,8 @@ pub(crate) fn all_revealed(
     let mut rows = Rows::new(alloc);
     for n in numbers {
         if let Some(user) = user_of(users, *n) {
-            rows.push(revealed(user))?;
+            let metrics = shown_metrics(&user.credential);
+            rows.push(revealed_with(user, metrics))?;
         }
     }
     Ok(rows)
@@ -73,7 +82,8 @@ pub(crate) fn all_revealed(
 pub(crate) fn shown_length(user: &User) -> u8
     ensures same { result ≡ shown_length user.now }
 {
-    let length = user.credential.metrics().length;
+    let metrics = user.credential.metrics();
+    let length = metrics.length;
     if user.auto && is_pin(user.credential.kind) && length >= 6 {
         length
     } else {

@@ -1,11 +1,10 @@
 //! A script: its lines, what they are answered, and the state after them.
-ghost use Rattle.std.specs.Prelude.{◌≡◌, ◌<◌, ◌≤◌, ◌∷◌, ◌==◌, [], length, map, find, not, IfOk, Ok};
+ghost use Rattle.std.specs.Prelude.{◌≡◌, [], length, map, find, IfOk, Ok};
 ghost use Rattle.std.specs.Prelude.{slice_get, option_map, option_and_then, unwrap_or};
-ghost use Rattle.std.specs.List.{prefix_len};
 ghost use Rattle.std.specs.Option.{option_copied};
 ghost use Rattle.ls_script.specs.Commands.{is_refusal, refusal_or};
 ghost use Rattle.ls_script.specs.ReplyText.{reply_text};
-ghost use Rattle.ls_vault.specs.Script.{lines_of, standing_of, carried, served_as, served_text};
+ghost use Rattle.ls_vault.specs.Script.{standing_of, carried, served_as, served_text};
 ghost use Rattle.ls_vault.specs.Script.{replies, told, after};
 
 use crate::refusal::is_opened;
@@ -15,6 +14,7 @@ use crate::table::Table;
 use crate::users::user_of;
 use ls_bytes::{Bytes, Memory, put_bytes};
 use ls_credential::Kind;
+use ls_lines::first_line;
 use ls_script::{Command, LineFault, Reply, ScriptLine, line, print_fault, print_reply};
 use std::alloc::Global;
 
@@ -56,28 +56,6 @@ pub fn replies(
         text,
         state: stage.state,
     })
-}
-
-/// The first line of a script, and what stands behind it.
-fn first_line(script: &[u8]) -> (&[u8], &[u8])
-    requires some { 0 < length script.now }
-    ensures lines { lines_of script.now ≡ result.0.now ∷ lines_of result.1.now }
-    ensures shorter { length result.1.now < length script.now }
-{
-    let end = first_end(script);
-    if end < script.len() {
-        (&script[..end], &script[end + 1..])
-    } else {
-        (script, &[])
-    }
-}
-
-/// Where the first line ends: at its 0x0A, or at the end of the script.
-fn first_end(script: &[u8]) -> usize
-    ensures count { result ≡ prefix_len (λ b. not (b == 10)) script.now }
-    ensures within { result ≤ length script.now }
-{
-    script.iter().take_while(|b| **b != b'\n').count()
 }
 
 /// What is printed for a line, and the stage after it.

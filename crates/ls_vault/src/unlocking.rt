@@ -1,10 +1,9 @@
 //! Users are unlocked and locked.
-ghost use Rattle.std.specs.Prelude.{◌≡◌, ℕ, IfOk, Some};
+ghost use Rattle.std.specs.Prelude.{◌≡◌, IfOk, Some};
 ghost use Rattle.ls_vault.specs.States.{on_user};
 ghost use Rattle.ls_vault.specs.Unlocking.{opened, locked, attempted, token_attempted};
 ghost use Rattle.ls_vault.specs.Users.{user_of};
 
-use crate::numbers::{add_number, remove_number};
 use crate::revealed::revealed;
 use crate::state::{Outcome, State};
 use crate::users::{clear, count_failure, user_of};
@@ -18,9 +17,9 @@ fn opened(state: State, user: u32) -> Result<State, Memory>
     ensures same { IfOk result (λ s. s ≡ opened state user) }
 {
     let mut state = state;
-    add_number(&mut state.session.opened, user)?;
+    state.session.opened.add(user)?;
     if state.session.prepared {
-        add_number(&mut state.session.captured, user)?;
+        state.session.captured.add(user)?;
     }
     Ok(state)
 }
@@ -30,7 +29,7 @@ pub(crate) fn locked(state: State, user: u32) -> State
     ensures same { result ≡ locked state user }
 {
     let mut state = state;
-    remove_number(&mut state.session.opened, user);
+    state.session.opened.remove(user);
     state
 }
 

@@ -1,17 +1,15 @@
 //! Users come and go.
-ghost use Rattle.std.specs.Prelude.{◌≡◌, ◌<◌, ◌≤◌, ◌+◌, ◌^◌, length, IfOk, take, drop, []};
-ghost use Rattle.ls_credential.specs.declared.kind.Kind.TheVariants.{Empty};
+ghost use Rattle.std.specs.Prelude.{◌≡◌, ◌<◌, ◌≤◌, ◌+◌, ◌^◌, length, IfOk, take, drop};
 ghost use Rattle.ls_secret.specs.Secrets.{new_secret};
 ghost use Rattle.ls_vault.specs.States.{committed};
-ghost use Rattle.ls_vault.specs.UserChanges.{new_user, added, arming_without, dropped};
+ghost use Rattle.ls_vault.specs.UserChanges.{new_user, added, dropped};
 
-use crate::numbers::remove_number;
 use crate::state::State;
 use crate::table::Table;
 use crate::tokens::remove_all_pending;
 use crate::user::User;
 use crate::users::{add_user, remove_user};
-use crate::vault::Arming;
+use ls_arming::disarmed;
 use ls_bytes::Memory;
 use ls_credential::Credential;
 use ls_secret::Secret;
@@ -84,19 +82,6 @@ pub(crate) fn added(
     Ok(committed(state))
 }
 
-/// An arming without this user, None where it has no other.
-fn arming_without(arming: Option<Arming>, user: u32) -> Option<Arming>
-    ensures same { result ≡ arming_without arming user }
-{
-    let mut arming = arming?;
-    remove_number(&mut arming.users, user);
-    if arming.users.as_slice().is_empty() {
-        None
-    } else {
-        Some(arming)
-    }
-}
-
 /// Nothing is left of the user.
 pub(crate) fn dropped(state: State, user: u32) -> State
     requires { state.books.kept + 1 < 2 ^ 64 }
@@ -104,10 +89,10 @@ pub(crate) fn dropped(state: State, user: u32) -> State
 {
     let mut state = state;
     remove_user(&mut state.vault.users, user);
-    state.vault.arming = arming_without(state.vault.arming.take(), user);
-    remove_number(&mut state.books.dead, user);
-    remove_number(&mut state.session.opened, user);
+    state.vault.arming = disarmed(state.vault.arming.take(), user);
+    state.books.dead.remove(user);
+    state.session.opened.remove(user);
     remove_all_pending(&mut state.session.pending, user);
-    remove_number(&mut state.session.captured, user);
+    state.session.captured.remove(user);
     committed(state)
 }

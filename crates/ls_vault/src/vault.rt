@@ -2,15 +2,7 @@
 
 use crate::table::Table;
 use crate::user::User;
-
-/// The users whose secrets are kept over a restart, and the boot at which they were armed.
-#[derive(Drop)]
-pub struct Arming {
-    /// The boot of the session that armed.
-    pub boot: u32,
-    /// The numbers of the users, ascending.
-    pub users: Table<u32>,
-}
+use ls_arming::{Arming, UserNumbers};
 
 /// What is kept of users.
 #[derive(Drop)]
@@ -27,5 +19,5 @@ pub struct Books {
     /// How many changes of the vault were kept: the sequence number of the settings.
     pub kept: u64,
     /// The users of an arming whose key is gone, ascending.
-    pub dead: Table<u32>,
+    pub dead: UserNumbers,
 }

@@ -1,7 +1,8 @@
 use Rattle.std.proofs.Common.{◌≡◌, ◌++◌, length}
 use Rattle.std.specs.Prelude.{flat_map}
+use Rattle.ls_lines.specs.Lines.{lines_of}
 use Rattle.ls_vault.proofs.ScriptLemmas.{stage_at}
-use Rattle.ls_vault.specs.Script.{lines_of, begun, told_lines, replies}
+use Rattle.ls_vault.specs.Script.{begun, told_lines, replies}
 use Rattle.ls_vault.proofs.script.replies.Given as goal
 
 abbrev pub invariant-loop-rest : goal.invariant-loop-rest

@@ -1,0 +1,2 @@
+pub mod Disarming
+pub mod Numbers
