@@ -1,7 +1,7 @@
 //! Carrying out a change of the vault.
-ghost use Rattle.std.specs.Prelude.{◌≡◌, ◌⊎◌, IsTrue, IfOk, OnOk, OnErr};
+ghost use Rattle.std.specs.Prelude.{◌≡◌, ◌⊎◌, take, slice_get, IsTrue, IsSomeAnd, IfOk, IfErr, OnOk, OnErr};
 ghost use Rattle.ls_board.specs.Acts.{Sight};
-ghost use Rattle.ls_board.specs.Runs.{Did, LeavesOnly};
+ghost use Rattle.ls_board.specs.Runs.{CanRun, Did, FailedAfter, PlanImage, LeavesOnly};
 ghost use Rattle.ls_board.specs.Keeping.{Keeps};
 ghost use Rattle.ls_board.specs.Rest.{SameRest};
 ghost use Rattle.ls_settings.specs.Loaded.{IsReady};
@@ -12,8 +12,22 @@ ghost use Rattle.ls_change.specs.Work.{HasRoom, IsQuietWork, Readies, IsCut, IsD
 ghost use Rattle.ls_change.specs.Work.{actions_of, next_of};
 
 use crate::work::Work;
-use ls_board::{Board, Part, run_plan};
+use ls_board::{Board, Part, PlanFault, run_plan};
 use ls_settings::{Committed, Settings};
+
+/// Does the actions before the commit.
+fn stage<B: Board>(board: &mut B, work: &Work) -> Result<(), PlanFault>
+    requires { CanRun (B.sight board.old) work.now.before }
+    ensures done { OnOk result (Did (B.sight board.old) work.now.before (B.sight board.new)) }
+    ensures failed { IfErr result (λ f. IsSomeAnd (slice_get work.now.before f.at) (λ a.
+        FailedAfter (B.sight board.old) (take f.at work.now.before) a f.part
+        (B.sight board.new))) }
+    ensures crash { IsTrue (B.sight board.old).told
+        → LeavesOnly (B.sight board.old) (B.sight board.new)
+        (PlanImage (B.sight board.old).world work.now.before) }
+{
+    run_plan(board, &work.before)
+}
 
 /// Does the actions before the commit, the commit, and the actions behind it. It takes no memory.
 /// After a fault the world stands for the old vault or the new one, and these settings serve no
@@ -57,7 +71,7 @@ pub fn carry_out<B: Board>(
     ensures ready { IsTrue (B.sight board.old).told
         → OnOk result (IsReady (B.sight board.new).world work.commit.to) }
 {
-    if let Err(fault) = run_plan(board, &work.before) {
+    if let Err(fault) = stage(board, &work) {
         return Err(fault.part);
     }
     let done = settings.commit(board, work.commit)?;

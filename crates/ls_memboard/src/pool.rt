@@ -30,11 +30,10 @@ pub(crate) fn part(pool: &[u8], at: usize, len: usize) -> &[u8]
 /// A kind, over a name and bytes that go into the pool.
 fn keep_parts(pool: &mut Vec<u8>, kind: Kind, name: &[u8], bytes: &[u8]) -> Kept
     requires { vec_len pool.old + (length name.now + length bytes.now) ≤ vec_capacity pool.old }
-    ensures kind { result.kind ≡ kind }
-    ensures at { result.at ≡ length pool.old.items }
-    ensures name { result.name ≡ length name.now }
+    ensures call { call_of pool.new.items result ≡ call_from kind name.now bytes.now }
+    ensures within { IsIn pool.new.items result }
     ensures bytes { result.bytes ≡ length bytes.now }
-    ensures items { pool.new.items ≡ pool.old.items ++ name.now ++ bytes.now }
+    ensures items { pool.new.items ≡ pool.old.items ++ (name.now ++ bytes.now) }
     ensures capacity { vec_capacity pool.old ≤ vec_capacity pool.new }
 {
     let at = pool.len();

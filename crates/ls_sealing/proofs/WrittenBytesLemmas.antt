@@ -5,9 +5,8 @@ use Rattle.std.specs.List.{list_all}
 use Rattle.std.proofs.lemmas.Bool.{and_parts, leb-true, eqb-true}
 use Rattle.ls_credential.specs.declared.kind.Kind.{Kind}
 use Rattle.ls_credential.specs.declared.kind.Kind.TheVariants.{Empty, Pattern, Pin, Password}
-use Rattle.ls_credential.specs.declared.metrics.Metrics.{Metrics}
 use Rattle.ls_credential.specs.Codes.{code_of}
-use Rattle.ls_credential.specs.Counts.{metrics_of, IsSmall}
+use Rattle.ls_credential.specs.Counts.{KindAndCounts, metrics_of, IsSmall}
 use Rattle.ls_credential.specs.Rules.{KindAndText}
 use Rattle.ls_blob.specs.declared.kind.BlobKind.{BlobKind}
 use Rattle.ls_blob.specs.declared.kind.BlobKind.TheVariants.{Credential, StrongToken}
@@ -95,7 +94,7 @@ handle_small id None c d gk_key = by (has_credential c.kind)
     by false = bytes_cons 0 [] (omega arith) bytes_nil
 handle_small id (Some n) c d gk_key = bytes_cons 0 [] (omega arith) bytes_nil
 
-counts_small : (m : Metrics) → IsSmall m → AllAreBytes (metrics_bytes m)
+counts_small : (m : KindAndCounts) → IsSmall m → AllAreBytes (metrics_bytes m)
 counts_small m small =
     bytes_cons (code_of m.kind) (m.length ∷ m.letters ∷ m.upper ∷ m.lower ∷ m.numeric ∷ m.symbols ∷ m.non_letter ∷ m.non_numeric ∷ m.run ∷ []) (code_small m.kind)
     (bytes_cons m.length (m.letters ∷ m.upper ∷ m.lower ∷ m.numeric ∷ m.symbols ∷ m.non_letter ∷ m.non_numeric ∷ m.run ∷ []) (omega (arith, small.length))

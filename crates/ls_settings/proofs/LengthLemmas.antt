@@ -3,7 +3,7 @@ use Rattle.std.proofs.Common.{◌≡◌, ◌≤◌, ◌*◌, ℕ, Bool, true, fa
 use Rattle.std.specs.List.{AllByRecursion}
 use Rattle.ls_bytes.specs.Fields.{be32, be64}
 use Rattle.ls_record.specs.declared.row.UserRow.{UserRow}
-use Rattle.ls_record.specs.declared.row.Armed.{Armed}
+use Rattle.ls_arming.specs.declared.arming.Arming.{Arming}
 use Rattle.ls_record.specs.Rows.{Rec, IsRow, IsArming, IsRecord, is_token_count}
 use Rattle.ls_record.specs.Spelling.{row_bytes, arming_bytes, record_bytes}
 
@@ -26,7 +26,7 @@ rows_length : (rows : List UserRow) → AllByRecursion IsRow rows → length (fl
 rows_length [] all = omega arith
 rows_length (row ∷ rows) all = omega (arith, length-append (row_bytes 2 row) (flat_map (row_bytes 2) rows), row_length row all.0, rows_length rows all.1)
 
-arming_length : (rows : List UserRow) (arming : Option Armed) → IfSome arming (IsArming rows) → length (arming_bytes arming) ≤ 70
+arming_length : (rows : List UserRow) (arming : Option Arming) → IfSome arming (IsArming rows) → length (arming_bytes arming) ≤ 70
 arming_length rows None keeps = omega arith
 arming_length rows (Some a) keeps = omega (arith, users_length a.users, keeps.few)
 

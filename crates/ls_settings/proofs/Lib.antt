@@ -11,6 +11,7 @@ mod EntryCommits
 mod WholeCommits
 mod CommitLemmas
 mod EntriesLemmas
+mod FrontLemmas
 mod ContentLemmas
 mod ReadLemmas
 pub mod RunningLemmas

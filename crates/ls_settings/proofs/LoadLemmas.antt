@@ -41,6 +41,18 @@ keeps_after {E = E} one fault old mid new v first e then = record {
     err_same : {W : Type 0} {x y : E} → ◌≡◌ {A = Result W E} (Err x) (Err y) → x ≡ y
     err_same same = cc
 
+-- what two calls keep that were both answered
+pub keeps_both : {T U V E F : Type 0} (one : Part → F) (fault : Part → E) (old mid new : Sight) (v : T) → Keeps {T = T} {E = F} one old mid (Ok v) → (u : U) → Keeps {T = U} {E = E} fault mid new (Ok u) → (x : V) → Keeps {T = V} {E = E} fault old new (Ok x)
+keeps_both one fault old mid new v first u then x = record {
+  told = then.told ∙ first.told;
+  never_fails = then.never_fails ∙ first.never_fails;
+  slots = then.slots ∙ first.slots;
+  later = λ p. subst (λ (f : Part → ℕ). f p ≤ new.faults p) first.quiet (then.later p);
+  quiet = then.quiet ∙ first.quiet;
+  other = λ e is no. then.quiet ∙ first.quiet;
+  cause = λ p is. absurd (cc);
+}
+
 -- ---- the steps
 
 refused_same : (x y : OpenRefusal) → ◌≡◌ {A = Result Loaded OpenRefusal} (Err x) (Err y) → x ≡ y

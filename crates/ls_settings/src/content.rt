@@ -2,10 +2,11 @@
 ghost use Rattle.std.specs.Prelude.{◌≡◌, ◌≤◌, length, take, drop, slice_index, min, MatchResult, Ok};
 ghost use Rattle.ls_record.specs.Reading.{record_of};
 ghost use Rattle.ls_record.specs.Spelling.{IsTextOf};
-ghost use Rattle.ls_naming.specs.Current.{file_says, front_says, found_at};
+ghost use Rattle.ls_naming.specs.Current.{length_word, file_says, front_says, found_at};
 ghost use Rattle.ls_settings.specs.FileReading.{TellsPlace, IsContent};
 
 use crate::fault::FileFault;
+use crate::head::base_in;
 use crate::journal::{Walk, fault_behind, read_entries};
 use byteorder::{BigEndian, ByteOrder};
 use ls_record::Record;
@@ -55,6 +56,14 @@ fn body_in(file: &[u8], count: usize) -> &[u8]
     }
 }
 
+/// The word of the body's length, with a bit for the journal.
+fn length_word(file: &[u8]) -> u32
+    requires head { 13 ≤ length file.now }
+    ensures word { result ≡ length_word file.now }
+{
+    BigEndian::read_u32(&file[9..])
+}
+
 /// What the first 4,096 bytes of a file say. The head is there.
 fn read_front(alloc: Global, file: &[u8]) -> Result<Content, FileFault>
     requires head { 13 ≤ length file.now }
@@ -62,8 +71,8 @@ fn read_front(alloc: Global, file: &[u8]) -> Result<Content, FileFault>
     ensures exact { MatchResult result (IsContent file.now (front_says file.now))
         (TellsPlace (front_says file.now)) }
 {
-    let sequence = BigEndian::read_u64(&file[1..]);
-    let word = BigEndian::read_u32(&file[9..]);
+    let sequence = base_in(file);
+    let word = length_word(file);
     let length = word % (1 << 31);
     if length > 4083 {
         return Err(FileFault::Foreign { at: 9 });

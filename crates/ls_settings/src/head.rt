@@ -26,7 +26,8 @@ pub(crate) fn is_open(file: &Option<Bytes>) -> bool
     }
 }
 
-fn base_in(bytes: &[u8]) -> u64
+/// The sequence number in the head, 0 where the bytes are too few.
+pub(crate) fn base_in(bytes: &[u8]) -> u64
     ensures same { result ≡ base_of (Some bytes.now) }
 {
     if bytes.len() < 9 {

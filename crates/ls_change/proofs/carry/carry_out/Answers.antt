@@ -7,107 +7,107 @@ use Rattle.ls_change.proofs.carry.carry_out.Goals as goal
 
 pub returns-in-Err-clause-keeps : goal.returns-in-Err-clause-keeps
 returns-in-Err-clause-keeps g c =
-    failed_keeps {T = Committed} (g.B.Board.sight c.args.board.now) (g.B.Board.sight c.run_plan.new.board) _ _ c.in-Err.fault.part c.in-Err.ensures.failed
+    failed_keeps {T = Committed} (g.B.Board.sight c.args.board.now) (g.B.Board.sight c.stage.new.board) _ _ c.in-Err.fault.part c.in-Err.ensures.failed
 
 pub returns-in-Err-clause-crash : goal.returns-in-Err-clause-crash
 returns-in-Err-clause-crash g c = λ told old new was ready.
-    first_crash (g.B.Board.sight c.args.board.now) c.args.settings.now c.args.work c.requires.quiet (g.B.Board.sight c.run_plan.new.board) c.run_plan.ensures.crash told old new was
+    first_crash (g.B.Board.sight c.args.board.now) c.args.settings.now c.args.work c.requires.quiet (g.B.Board.sight c.stage.new.board) c.stage.ensures.crash told old new was
 
 pub returns-in-Err-clause-rest : goal.returns-in-Err-clause-rest
 returns-in-Err-clause-rest g c =
-    first_rest (g.B.Board.sight c.args.board.now) c.args.settings.now c.args.work c.requires.quiet (g.B.Board.sight c.run_plan.new.board) c.in-Err.fault.at c.in-Err.fault.part c.in-Err.ensures.failed
+    first_rest (g.B.Board.sight c.args.board.now) c.args.settings.now c.args.work c.requires.quiet (g.B.Board.sight c.stage.new.board) c.in-Err.fault.at c.in-Err.fault.part c.in-Err.ensures.failed
 
 pub returns-in-Err-clause-cut : goal.returns-in-Err-clause-cut
 returns-in-Err-clause-cut g c =
-    first_cut (g.B.Board.sight c.args.board.now) c.args.settings.now c.args.work c.requires.quiet (g.B.Board.sight c.run_plan.new.board) c.run_plan.ensures.crash
+    first_cut (g.B.Board.sight c.args.board.now) c.args.settings.now c.args.work c.requires.quiet (g.B.Board.sight c.stage.new.board) c.stage.ensures.crash
 
 pub commit-requires-clause-ready : goal.commit-requires-clause-ready
 commit-requires-clause-ready g c =
-    commit_ready (g.B.Board.sight c.args.board.now) c.args.settings.now c.args.work c.requires.quiet (g.B.Board.sight c.run_plan.new.board) c.run_plan.ensures.crash c.in_default.ensures.done
+    commit_ready (g.B.Board.sight c.args.board.now) c.args.settings.now c.args.work c.requires.quiet (g.B.Board.sight c.stage.new.board) c.stage.ensures.crash c.in_default.ensures.done
 
 pub returns-in_err-done-clause-keeps : goal.returns-in_err-done-clause-keeps
 returns-in_err-done-clause-keeps g c =
     let p = err_from_is_err_and c.from_residual.result c.from_residual.ensures.1 in
     rw (p.1, p.2)
-    (keeps_behind {T = Committed} (g.B.Board.sight c.args.board.now) (g.B.Board.sight c.run_plan.new.board) (g.B.Board.sight c.commit.new.board) c.args.work.before (Err c.in_err-done.field-0.0)
+    (keeps_behind {T = Committed} (g.B.Board.sight c.args.board.now) (g.B.Board.sight c.stage.new.board) (g.B.Board.sight c.commit.new.board) c.args.work.before (Err c.in_err-done.field-0.0)
     c.in_default.ensures.done c.in_err-done.ensures.keeps)
 
 pub returns-in_err-done-clause-crash : goal.returns-in_err-done-clause-crash
 returns-in_err-done-clause-crash g c =
-    second_crash (g.B.Board.sight c.args.board.now) c.args.settings.now c.args.work c.requires.quiet (g.B.Board.sight c.run_plan.new.board) c.run_plan.ensures.crash c.in_default.ensures.done
+    second_crash (g.B.Board.sight c.args.board.now) c.args.settings.now c.args.work c.requires.quiet (g.B.Board.sight c.stage.new.board) c.stage.ensures.crash c.in_default.ensures.done
     (g.B.Board.sight c.commit.new.board) c.commit.ensures.crash
 
 pub returns-in_err-done-clause-rest : goal.returns-in_err-done-clause-rest
 returns-in_err-done-clause-rest g c =
-    second_rest (g.B.Board.sight c.args.board.now) c.args.settings.now c.args.work c.requires.quiet (g.B.Board.sight c.run_plan.new.board) c.run_plan.ensures.crash c.in_default.ensures.done
+    second_rest (g.B.Board.sight c.args.board.now) c.args.settings.now c.args.work c.requires.quiet (g.B.Board.sight c.stage.new.board) c.stage.ensures.crash c.in_default.ensures.done
     (g.B.Board.sight c.commit.new.board) c.commit.ensures.but
 
 pub returns-in_err-done-clause-cut : goal.returns-in_err-done-clause-cut
 returns-in_err-done-clause-cut g c =
-    second_cut (g.B.Board.sight c.args.board.now) c.args.settings.now c.args.work c.requires.quiet (g.B.Board.sight c.run_plan.new.board) c.run_plan.ensures.crash c.in_default.ensures.done
+    second_cut (g.B.Board.sight c.args.board.now) c.args.settings.now c.args.work c.requires.quiet (g.B.Board.sight c.stage.new.board) c.stage.ensures.crash c.in_default.ensures.done
     (g.B.Board.sight c.commit.new.board) c.commit.ensures.crash
 
-pub run_plan-requires-2 : goal.run_plan-requires-2
-run_plan-requires-2 g c =
-    can_finish (g.B.Board.sight c.args.board.now) c.args.settings.now c.args.work c.requires.quiet (g.B.Board.sight c.run_plan.new.board) c.run_plan.ensures.crash c.in_default.ensures.done
+pub run_plan-requires : goal.run_plan-requires
+run_plan-requires g c =
+    can_finish (g.B.Board.sight c.args.board.now) c.args.settings.now c.args.work c.requires.quiet (g.B.Board.sight c.stage.new.board) c.stage.ensures.crash c.in_default.ensures.done
     (g.B.Board.sight c.commit.new.board) c.commit.ensures.crash c.in_ok-done.ensures.did c.in_ok-done.ensures.ready c.commit.ensures.but c.requires.room
 
 pub returns-in-Ok-clause-did : goal.returns-in-Ok-clause-did
 returns-in-Ok-clause-did g c =
-    did_all (g.B.Board.sight c.args.board.now) c.args.settings.now c.args.work c.requires.quiet (g.B.Board.sight c.run_plan.new.board) c.run_plan.ensures.crash c.in_default.ensures.done
+    did_all (g.B.Board.sight c.args.board.now) c.args.settings.now c.args.work c.requires.quiet (g.B.Board.sight c.stage.new.board) c.stage.ensures.crash c.in_default.ensures.done
     (g.B.Board.sight c.commit.new.board) c.commit.ensures.crash c.in_ok-done.ensures.did c.in_ok-done.ensures.ready c.commit.ensures.but
-    (g.B.Board.sight c.run_plan-2.new.board) c.in-Ok.ensures.done
+    (g.B.Board.sight c.run_plan.new.board) c.in-Ok.ensures.done
 
 pub returns-in-Ok-clause-rest : goal.returns-in-Ok-clause-rest
 returns-in-Ok-clause-rest g c =
-    ends_rest (g.B.Board.sight c.args.board.now) c.args.settings.now c.args.work c.requires.quiet (g.B.Board.sight c.run_plan.new.board) c.run_plan.ensures.crash c.in_default.ensures.done
+    ends_rest (g.B.Board.sight c.args.board.now) c.args.settings.now c.args.work c.requires.quiet (g.B.Board.sight c.stage.new.board) c.stage.ensures.crash c.in_default.ensures.done
     (g.B.Board.sight c.commit.new.board) c.commit.ensures.crash c.in_ok-done.ensures.did c.in_ok-done.ensures.ready c.commit.ensures.but
-    (g.B.Board.sight c.run_plan-2.new.board) c.in-Ok.ensures.done
+    (g.B.Board.sight c.run_plan.new.board) c.in-Ok.ensures.done
 
 pub returns-in-Ok-clause-cut : goal.returns-in-Ok-clause-cut
 returns-in-Ok-clause-cut g c =
-    third_cut (g.B.Board.sight c.args.board.now) c.args.settings.now c.args.work c.requires.quiet (g.B.Board.sight c.run_plan.new.board) c.run_plan.ensures.crash c.in_default.ensures.done
+    third_cut (g.B.Board.sight c.args.board.now) c.args.settings.now c.args.work c.requires.quiet (g.B.Board.sight c.stage.new.board) c.stage.ensures.crash c.in_default.ensures.done
     (g.B.Board.sight c.commit.new.board) c.commit.ensures.crash c.in_ok-done.ensures.did c.in_ok-done.ensures.ready c.commit.ensures.but
-    (g.B.Board.sight c.run_plan-2.new.board) c.run_plan-2.ensures.crash
+    (g.B.Board.sight c.run_plan.new.board) c.run_plan.ensures.crash
 
 pub returns-in-Ok-clause-crash : goal.returns-in-Ok-clause-crash
 returns-in-Ok-clause-crash g c =
-    third_crash (g.B.Board.sight c.args.board.now) c.args.settings.now c.args.work c.requires.quiet (g.B.Board.sight c.run_plan.new.board) c.run_plan.ensures.crash c.in_default.ensures.done
+    third_crash (g.B.Board.sight c.args.board.now) c.args.settings.now c.args.work c.requires.quiet (g.B.Board.sight c.stage.new.board) c.stage.ensures.crash c.in_default.ensures.done
     (g.B.Board.sight c.commit.new.board) c.commit.ensures.crash c.in_ok-done.ensures.did c.in_ok-done.ensures.ready c.commit.ensures.but
-    (g.B.Board.sight c.run_plan-2.new.board) c.run_plan-2.ensures.crash
+    (g.B.Board.sight c.run_plan.new.board) c.run_plan.ensures.crash
 
 pub returns-in-Ok-clause-done : goal.returns-in-Ok-clause-done
 returns-in-Ok-clause-done g c =
-    ends_durable (g.B.Board.sight c.args.board.now) c.args.settings.now c.args.work c.requires.quiet (g.B.Board.sight c.run_plan.new.board) c.run_plan.ensures.crash c.in_default.ensures.done
+    ends_durable (g.B.Board.sight c.args.board.now) c.args.settings.now c.args.work c.requires.quiet (g.B.Board.sight c.stage.new.board) c.stage.ensures.crash c.in_default.ensures.done
     (g.B.Board.sight c.commit.new.board) c.commit.ensures.crash c.in_ok-done.ensures.did c.in_ok-done.ensures.ready c.commit.ensures.but
-    (g.B.Board.sight c.run_plan-2.new.board) c.in-Ok.ensures.done
+    (g.B.Board.sight c.run_plan.new.board) c.in-Ok.ensures.done
 
 pub returns-in-Ok-clause-ready : goal.returns-in-Ok-clause-ready
 returns-in-Ok-clause-ready g c =
-    ends_ready (g.B.Board.sight c.args.board.now) c.args.settings.now c.args.work c.requires.quiet (g.B.Board.sight c.run_plan.new.board) c.run_plan.ensures.crash c.in_default.ensures.done
+    ends_ready (g.B.Board.sight c.args.board.now) c.args.settings.now c.args.work c.requires.quiet (g.B.Board.sight c.stage.new.board) c.stage.ensures.crash c.in_default.ensures.done
     (g.B.Board.sight c.commit.new.board) c.commit.ensures.crash c.in_ok-done.ensures.did c.in_ok-done.ensures.ready c.commit.ensures.but
-    (g.B.Board.sight c.run_plan-2.new.board) c.in-Ok.ensures.done
+    (g.B.Board.sight c.run_plan.new.board) c.in-Ok.ensures.done
 
 pub returns-clause-keeps : goal.returns-clause-keeps
 returns-clause-keeps g c =
-    keeps_behind {T = Committed} (g.B.Board.sight c.args.board.now) (g.B.Board.sight c.commit.new.board) (g.B.Board.sight c.run_plan-2.new.board) (c.args.work.before ++ c.args.work.commit.actions) (Err c.in-Err-run_plan.fault.part)
-    (did_both (g.B.Board.sight c.args.board.now) (g.B.Board.sight c.run_plan.new.board) (g.B.Board.sight c.commit.new.board) c.args.work.before c.args.work.commit.actions c.in_default.ensures.done c.in_ok-done.ensures.did)
-    (failed_keeps {T = Committed} (g.B.Board.sight c.commit.new.board) (g.B.Board.sight c.run_plan-2.new.board) _ _ c.in-Err-run_plan.fault.part c.in-Err-run_plan.ensures.failed)
+    keeps_behind {T = Committed} (g.B.Board.sight c.args.board.now) (g.B.Board.sight c.commit.new.board) (g.B.Board.sight c.run_plan.new.board) (c.args.work.before ++ c.args.work.commit.actions) (Err c.in-Err-run_plan.fault.part)
+    (did_both (g.B.Board.sight c.args.board.now) (g.B.Board.sight c.stage.new.board) (g.B.Board.sight c.commit.new.board) c.args.work.before c.args.work.commit.actions c.in_default.ensures.done c.in_ok-done.ensures.did)
+    (failed_keeps {T = Committed} (g.B.Board.sight c.commit.new.board) (g.B.Board.sight c.run_plan.new.board) _ _ c.in-Err-run_plan.fault.part c.in-Err-run_plan.ensures.failed)
 
 pub returns-clause-rest : goal.returns-clause-rest
 returns-clause-rest g c =
-    third_rest (g.B.Board.sight c.args.board.now) c.args.settings.now c.args.work c.requires.quiet (g.B.Board.sight c.run_plan.new.board) c.run_plan.ensures.crash c.in_default.ensures.done
+    third_rest (g.B.Board.sight c.args.board.now) c.args.settings.now c.args.work c.requires.quiet (g.B.Board.sight c.stage.new.board) c.stage.ensures.crash c.in_default.ensures.done
     (g.B.Board.sight c.commit.new.board) c.commit.ensures.crash c.in_ok-done.ensures.did c.in_ok-done.ensures.ready c.commit.ensures.but
-    (g.B.Board.sight c.run_plan-2.new.board) c.in-Err-run_plan.fault.at c.in-Err-run_plan.fault.part c.in-Err-run_plan.ensures.failed
+    (g.B.Board.sight c.run_plan.new.board) c.in-Err-run_plan.fault.at c.in-Err-run_plan.fault.part c.in-Err-run_plan.ensures.failed
 
 pub returns-clause-cut : goal.returns-clause-cut
 returns-clause-cut g c =
-    third_cut (g.B.Board.sight c.args.board.now) c.args.settings.now c.args.work c.requires.quiet (g.B.Board.sight c.run_plan.new.board) c.run_plan.ensures.crash c.in_default.ensures.done
+    third_cut (g.B.Board.sight c.args.board.now) c.args.settings.now c.args.work c.requires.quiet (g.B.Board.sight c.stage.new.board) c.stage.ensures.crash c.in_default.ensures.done
     (g.B.Board.sight c.commit.new.board) c.commit.ensures.crash c.in_ok-done.ensures.did c.in_ok-done.ensures.ready c.commit.ensures.but
-    (g.B.Board.sight c.run_plan-2.new.board) c.run_plan-2.ensures.crash
+    (g.B.Board.sight c.run_plan.new.board) c.run_plan.ensures.crash
 
 pub returns-clause-crash : goal.returns-clause-crash
 returns-clause-crash g c =
-    third_crash (g.B.Board.sight c.args.board.now) c.args.settings.now c.args.work c.requires.quiet (g.B.Board.sight c.run_plan.new.board) c.run_plan.ensures.crash c.in_default.ensures.done
+    third_crash (g.B.Board.sight c.args.board.now) c.args.settings.now c.args.work c.requires.quiet (g.B.Board.sight c.stage.new.board) c.stage.ensures.crash c.in_default.ensures.done
     (g.B.Board.sight c.commit.new.board) c.commit.ensures.crash c.in_ok-done.ensures.did c.in_ok-done.ensures.ready c.commit.ensures.but
-    (g.B.Board.sight c.run_plan-2.new.board) c.run_plan-2.ensures.crash
+    (g.B.Board.sight c.run_plan.new.board) c.run_plan.ensures.crash

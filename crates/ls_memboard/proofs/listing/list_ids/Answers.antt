@@ -1,7 +1,7 @@
 use Rattle.std.proofs.Common.{◌≤◌, ◌<◌, ◌+◌, ◌^◌, arith, sym, ◌∙◌, subst, length, take, map}
 use Rattle.std.specs.Ordering.{nat_cmp}
 use Rattle.ls_bytes.specs.Fields.{be64}
-use Rattle.ls_memboard.proofs.ListingLemmas.{Listed, listed_more, listed_all, keys_ascend, keys_listed}
+use Rattle.ls_memboard.proofs.ListingLemmas.{Listed, none_past, listed_more, listed_all, keys_ascend, keys_listed}
 use Rattle.ls_memboard.proofs.listing.list_ids.Goals as goal
 
 pub loop-at-preserved : goal.loop-at-preserved
@@ -29,3 +29,16 @@ returns-clause-numbers g c =
       ascending = keys_ascend nat_cmp rows c.len-at-end.ensures.table.sorted;
       is = listed.is ∙ keys_listed be64 rows;
     }
+
+pub loop-at-init : goal.loop-at-init
+loop-at-init g c = record { is = c.requires.empty; each = tt }
+
+pub returns-in_default-clause-listed : goal.returns-in_default-clause-listed
+returns-in_default-clause-listed g c =
+    let past = none_past c.args.rows.now.rows c.loop-at.at (sym c.in_default.ensures.found) in
+    absurd (omega (arith, past, c.len-at-end.ensures.count, c.loop-at-test.true))
+
+pub returns-in_default-clause-numbers : goal.returns-in_default-clause-numbers
+returns-in_default-clause-numbers g c =
+    let past = none_past c.args.rows.now.rows c.loop-at.at (sym c.in_default.ensures.found) in
+    absurd (omega (arith, past, c.len-at-end.ensures.count, c.loop-at-test.true))
