@@ -8,7 +8,7 @@ use Rattle.ls_formats.specs.declared.side.Side.TheVariants.{First, Second}
 use Rattle.ls_formats.specs.declared.part.FilePart.TheVariants.{E0, P1}
 use Rattle.ls_formats.specs.PartNames.{settings_text}
 use Rattle.ls_record.specs.declared.row.UserRow.{UserRow}
-use Rattle.ls_record.specs.declared.row.Armed.{Armed}
+use Rattle.ls_arming.specs.declared.arming.Arming.{Arming}
 use Rattle.ls_record.specs.Rows.{Rec}
 use Rattle.ls_naming.specs.Named.{Files}
 use Rattle.ls_naming.specs.Current.{Settled, Foreign, settled, unsettled, current, said_by, side_says, settled_in, current_side, file_says, whole_says, front_says, and_then}
@@ -24,7 +24,7 @@ use Rattle.ls_sealing.specs.Protectors.{Held, held}
 use Rattle.ls_sealing.specs.Seals.{SealsToken, CompletesTo}
 use Rattle.ls_standing.specs.Named.{UserHeld, RowHeld, held_of_row, token_of}
 use Rattle.ls_standing.specs.Opening.{first_foreign}
-use Rattle.ls_standing.specs.Standing.{SaysUser, HoldsUser, HoldsEscrow, Holds, StandsFor, IsTargetWhole, arming_of}
+use Rattle.ls_standing.specs.Standing.{SaysUser, HoldsUser, HoldsEscrow, Holds, StandsFor, IsTargetWhole, kept_arming}
 use Rattle.ls_unsealing.proofs.SealsLemmas.{decided_by}
 use Rattle.ls_checker.proofs.ZipLemmas.{zip_mapped}
 use Rattle.ls_checker.specs.Parts.{HoldsCredential, HoldsRest}
@@ -191,19 +191,19 @@ stands_decided w v o r result is found decided =
 
 -- ---- a record
 
-users_hold : (w : World) (r : Rec) (v : Vault) → first_foreign w r ≡ None → v.arming ≡ arming_of r.armed w.cell
+users_hold : (w : World) (r : Rec) (v : Vault) → first_foreign w r ≡ None → v.arming ≡ kept_arming r.armed w.cell
     → AllZip (λ row u. HoldsUser row (held_of_row w r.armed row) u) r.users v.users ↔ Holds w r v
 users_hold w r v files arming = (
   λ users. record { users = users; files = files; arming = arming },
   λ holds. holds.users,
 )
 
-pub users_decided : (w : World) (r : Rec) (v : Vault) (rows : List UserRow) (users : List User) (armed : Option Armed) (result : Result Bool Memory)
-    → first_foreign w r ≡ None → v.arming ≡ arming_of r.armed w.cell
+pub users_decided : (w : World) (r : Rec) (v : Vault) (rows : List UserRow) (users : List User) (armed : Option Arming) (result : Result Bool Memory)
+    → first_foreign w r ≡ None → v.arming ≡ kept_arming r.armed w.cell
     → rows ≡ r.users → users ≡ v.users → armed ≡ r.armed
     → IfOk result (λ b. IsTrue b ↔ AllZip (λ row u. HoldsUser row (held_of_row w armed row) u) rows users)
     → IfOk result (λ b. IsTrue b ↔ Holds w r v)
 users_decided w r v rows users armed result files arming first second third decided =
-    let decides : List UserRow → List User → Option Armed → Type 0 = λ l m a. IfOk result (λ b. IsTrue b ↔ AllZip (λ row u. HoldsUser row (held_of_row w a row) u) l m) in
+    let decides : List UserRow → List User → Option Arming → Type 0 = λ l m a. IfOk result (λ b. IsTrue b ↔ AllZip (λ row u. HoldsUser row (held_of_row w a row) u) l m) in
     decided_by result (users_hold w r v files arming)
     (subst (decides r.users v.users) third (subst (λ (m : List User). decides r.users m armed) second (subst (λ (l : List UserRow). decides l users armed) first decided)))

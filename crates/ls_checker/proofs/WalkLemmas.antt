@@ -4,7 +4,7 @@ use Rattle.std.specs.Prelude.{Result, Ok, Err, OnOk}
 use Rattle.ls_bytes.specs.declared.memory.Memory.{Memory}
 use Rattle.ls_formats.specs.PartNames.{PartOf, part_name_text}
 use Rattle.ls_record.specs.declared.row.UserRow.{UserRow}
-use Rattle.ls_record.specs.declared.row.Armed.{Armed}
+use Rattle.ls_arming.specs.declared.arming.Arming.{Arming}
 use Rattle.ls_naming.specs.Named.{row_files}
 use Rattle.ls_sealing.specs.Protectors.{has_weaver}
 use Rattle.ls_naming.specs.Current.{Foreign}
@@ -40,7 +40,7 @@ walked_says w earlier (x ∷ xs) =
     says_by w (earlier ++ slot_in x.1.part bytes) x.1 (file_fault (beside w earlier x.0) x.0 x.1 bytes) xs
     (walked_says w (earlier ++ slot_in x.1.part bytes) xs)
 
-rows_by : (w : World) (armed : Option Armed) (row : UserRow) (rows : List UserRow) (s s1 s2 : Walked) (r : Result Unit Memory)
+rows_by : (w : World) (armed : Option Arming) (row : UserRow) (rows : List UserRow) (s s1 s2 : Walked) (r : Result Unit Memory)
     → s1 ≡ walked w s (map (λ name. (row, name)) (row_files (has_weaver w) armed row))
     → OnOk r (s2 ≡ walked w s1 (files_of_rows (has_weaver w) armed rows))
     → OnOk r (s2 ≡ walked w s (files_of_rows (has_weaver w) armed (row ∷ rows)))
@@ -50,7 +50,7 @@ rows_by w armed row rows s s1 s2 (Ok u) first rest =
 rows_by w armed row rows s s1 s2 (Err e) first rest = rest
 
 -- a row is passed, and then the others
-pub rows_walked : (w : World) (armed : Option Armed) (rows : List UserRow) (row : UserRow) (s s1 s2 : Walked) (r : Result Unit Memory)
+pub rows_walked : (w : World) (armed : Option Arming) (rows : List UserRow) (row : UserRow) (s s1 s2 : Walked) (r : Result Unit Memory)
     → 1 ≤ length rows → row ≡ get_or rows 0 row
     → s1 ≡ walked w s (map (λ name. (row, name)) (row_files (has_weaver w) armed row))
     → OnOk r (s2 ≡ walked w s1 (files_of_rows (has_weaver w) armed (behind rows)))

@@ -1,9 +1,8 @@
 //! What is armed.
 ghost use Rattle.std.specs.Prelude.{◌≡◌, ◌↔◌, IsTrue};
-ghost use Rattle.ls_standing.specs.Standing.{arming_of};
+ghost use Rattle.ls_standing.specs.Standing.{kept_arming};
 
-use ls_record::Armed;
-use ls_vault::Arming;
+use ls_arming::Arming;
 
 /// Whether two lists of users are the same.
 fn are_same(a: &[u32], b: &[u32]) -> bool
@@ -12,10 +11,9 @@ fn are_same(a: &[u32], b: &[u32]) -> bool
     a == b
 }
 
-/// Whether the arming is this boot and these users.
-fn is_arming(armed: &Armed, arming: &Option<Arming>) -> bool
-    ensures same { IsTrue result
-        ↔ (arming.now ≡ Some (record { boot = armed.now.boot; users = armed.now.users })) }
+/// Whether this is the arming.
+fn is_arming(armed: &Arming, arming: &Option<Arming>) -> bool
+    ensures same { IsTrue result ↔ (arming.now ≡ Some armed.now) }
 {
     match arming {
         None => false,
@@ -25,16 +23,26 @@ fn is_arming(armed: &Armed, arming: &Option<Arming>) -> bool
     }
 }
 
+/// Whether two armings are the same, or nothing is armed in both.
+fn are_same_armings(armed: &Option<Arming>, arming: &Option<Arming>) -> bool
+    ensures same { IsTrue result ↔ (arming.now ≡ armed.now) }
+{
+    match armed {
+        None => arming.is_none(),
+        Some(armed) => is_arming(armed, arming),
+    }
+}
+
 /// Whether the arming is what the record says, as long as the cell holds a key, and else none.
 pub(crate) fn is_arming_of(
-    armed: &Option<Armed>,
+    armed: &Option<Arming>,
     cell: &Option<[u8; 32]>,
     arming: &Option<Arming>,
 ) -> bool
-    ensures decided { IsTrue result ↔ (arming.now ≡ arming_of armed.now cell.now) }
+    ensures decided { IsTrue result ↔ (arming.now ≡ kept_arming armed.now cell.now) }
 {
-    match (armed, cell) {
-        (Some(armed), Some(_)) => is_arming(armed, arming),
-        (None, _) | (_, None) => arming.is_none(),
+    match cell {
+        None => arming.is_none(),
+        Some(_) => are_same_armings(armed, arming),
     }
 }

@@ -12,11 +12,12 @@ ghost use Rattle.ls_standing.specs.Named.{held_of_row, held_of_user, token_of};
 ghost use Rattle.ls_standing.specs.Standing.{HoldsEscrow};
 
 use crate::user_files::user_file;
+use ls_arming::Arming;
 use ls_blob::opened_under;
 use ls_board::World;
 use ls_bytes::{Bytes, Memory};
 use ls_formats::FilePart;
-use ls_record::{Armed, UserRow};
+use ls_record::UserRow;
 use ls_secret::Secret;
 use ls_unsealing::{HeldParts, Protector, Purpose, completes, seals_token};
 use ls_vault::{Token, User};
@@ -128,7 +129,7 @@ fn halves_hold(
 fn holds_escrow(
     alloc: Global,
     world: &World,
-    armed: &Option<Armed>,
+    armed: &Option<Arming>,
     row: &UserRow,
     user: &User,
 ) -> Result<bool, Memory>
@@ -149,7 +150,7 @@ fn holds_escrow(
 pub(crate) fn holds_tokens(
     alloc: Global,
     world: &World,
-    armed: &Option<Armed>,
+    armed: &Option<Arming>,
     row: &UserRow,
     user: &User,
 ) -> Result<bool, Memory>

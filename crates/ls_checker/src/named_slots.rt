@@ -8,11 +8,12 @@ ghost use Rattle.ls_sealing.specs.Protectors.{has_weaver};
 ghost use Rattle.ls_checker.specs.SlotNames.{is_file_of, names_slot};
 
 use crate::files::part_file;
+use ls_arming::Arming;
 use ls_board::World;
 use ls_bytes::{Bytes, Memory};
 use ls_formats::{FilePart, PartName, SlotFile};
 use ls_naming::row_files;
-use ls_record::{Armed, Record, UserRow};
+use ls_record::{Record, UserRow};
 use std::alloc::Global;
 
 /// Whether it is the file of this slot.
@@ -68,7 +69,7 @@ fn row_names_slot(
     alloc: Global,
     world: &World,
     slot: u32,
-    armed: &Option<Armed>,
+    armed: &Option<Arming>,
     row: &UserRow,
 ) -> Result<bool, Memory>
     requires { IsRow row.now }
@@ -84,7 +85,7 @@ fn one_row_names_slot(
     alloc: Global,
     world: &World,
     slot: u32,
-    armed: &Option<Armed>,
+    armed: &Option<Arming>,
     rows: &[UserRow],
 ) -> Result<bool, Memory>
     requires { AllByRecursion IsRow rows.now }

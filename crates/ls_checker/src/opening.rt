@@ -2,11 +2,10 @@
 ghost use Rattle.std.specs.Prelude.{◌≡◌, IfOk};
 ghost use Rattle.ls_standing.specs.Opening.{first_foreign};
 
-use crate::checks::Beside;
-use crate::foreign::Foreign;
 use crate::walk::{Walk, pass_rows};
 use ls_board::World;
 use ls_bytes::{Memory, SlotList};
+use ls_opening::{Beside, Foreign};
 use ls_record::Record;
 use std::alloc::Global;
 

@@ -12,10 +12,11 @@ ghost use Rattle.ls_checker.specs.Parts.{HoldsCredential, HoldsRest};
 
 use crate::escrow::holds_tokens;
 use crate::user_files::{holds_handle, holds_resume};
+use ls_arming::Arming;
 use ls_board::{Counter, World};
 use ls_bytes::Memory;
 use ls_credential::Kind;
-use ls_record::{Armed, UserRow};
+use ls_record::UserRow;
 use ls_unsealing::{HeldParts, Protector, Purpose, seals, shows_metrics};
 use ls_vault::{Token, User};
 use std::alloc::Global;
@@ -139,7 +140,7 @@ fn holds_credential(
 fn holds_rest(
     alloc: Global,
     world: &World,
-    armed: &Option<Armed>,
+    armed: &Option<Arming>,
     row: &UserRow,
     user: &User,
 ) -> Result<bool, Memory>
@@ -159,7 +160,7 @@ fn holds_rest(
 fn holds_user(
     alloc: Global,
     world: &World,
-    armed: &Option<Armed>,
+    armed: &Option<Arming>,
     row: &UserRow,
     user: &User,
 ) -> Result<bool, Memory>
@@ -180,7 +181,7 @@ fn holds_user(
 pub(crate) fn holds_users(
     alloc: Global,
     world: &World,
-    armed: &Option<Armed>,
+    armed: &Option<Arming>,
     rows: &[UserRow],
     users: &[User],
 ) -> Result<bool, Memory>

@@ -19,13 +19,14 @@ ghost use Rattle.ls_standing.specs.Standing.{HoldsHandle, HoldsResume};
 use crate::files::part_file;
 use crate::number::same_bytes;
 use byteorder::{BigEndian, ByteOrder};
+use ls_arming::Arming;
 use ls_board::{Counter, World};
 use ls_bytes::{Bytes, Memory};
 use ls_formats::{FilePart, PartName};
 use ls_gatekeeper::Gatekeeper;
 use ls_gcm::{OpenFault, open};
 use ls_naming::{has_secure, is_armed};
-use ls_record::{Armed, UserRow};
+use ls_record::UserRow;
 use ls_secret::{Personal, Secret};
 use ls_vault::User;
 use std::alloc::Global;
@@ -33,7 +34,7 @@ use std::alloc::Global;
 // ---- files
 
 /// Whether the user has a file of this part.
-fn is_its_part(armed: &Option<Armed>, row: &UserRow, part: FilePart) -> bool
+fn is_its_part(armed: &Option<Arming>, row: &UserRow, part: FilePart) -> bool
     ensures same { result ≡ is_its_part armed.now row.now part }
 {
     match part {
@@ -52,7 +53,7 @@ fn is_its_part(armed: &Option<Armed>, row: &UserRow, part: FilePart) -> bool
 pub(crate) fn user_file(
     alloc: Global,
     world: &World,
-    armed: &Option<Armed>,
+    armed: &Option<Arming>,
     row: &UserRow,
     part: FilePart,
 ) -> Result<Option<Bytes>, Memory>
@@ -145,7 +146,7 @@ fn has_no_fails(counter: Option<Counter>) -> bool
 pub(crate) fn holds_handle(
     alloc: Global,
     world: &World,
-    armed: &Option<Armed>,
+    armed: &Option<Arming>,
     row: &UserRow,
     user: &User,
 ) -> Result<bool, Memory>
@@ -226,7 +227,7 @@ fn resumes(
 pub(crate) fn holds_resume(
     alloc: Global,
     world: &World,
-    armed: &Option<Armed>,
+    armed: &Option<Arming>,
     row: &UserRow,
     user: &User,
 ) -> Result<bool, Memory>

@@ -1,21 +1,20 @@
 //! Going over the files that a record names, as far as the first one at fault.
-ghost use Rattle.std.specs.Prelude.{◌≡◌, ◌++◌, None, map, nat_lt, length, IfOk, OnOk};
+ghost use Rattle.std.specs.Prelude.{◌≡◌, None, map, length, IfOk, OnOk};
 ghost use Rattle.std.specs.List.{AllByRecursion};
 ghost use Rattle.ls_record.specs.Rows.{IsRow};
 ghost use Rattle.ls_naming.specs.Named.{row_files};
-ghost use Rattle.ls_standing.specs.Opening.{content_at, slot_in, one_or_none, version_in, files_of_rows};
-ghost use Rattle.ls_sealing.specs.Protectors.{has_weaver, slot_number};
+ghost use Rattle.ls_standing.specs.Opening.{content_at, version_in, files_of_rows};
+ghost use Rattle.ls_sealing.specs.Protectors.{has_weaver};
 ghost use Rattle.ls_checker.specs.Walking.{walked, passed, walked_by, foreign_at};
 
-use crate::checks::{Beside, file_fault};
 use crate::files::part_file;
-use crate::foreign::Foreign;
-use crate::number::byte_at;
+use ls_arming::Arming;
 use ls_board::World;
-use ls_bytes::{Bytes, Memory, SlotList};
-use ls_formats::{FilePart, PartName, SlotFile};
+use ls_bytes::{Bytes, Memory};
+use ls_formats::{FilePart, PartName};
 use ls_naming::row_files;
-use ls_record::{Armed, UserRow};
+use ls_opening::{Beside, Foreign, add_slot, blob_version, bytes_fault};
+use ls_record::UserRow;
 use std::alloc::Global;
 use std::marker::Model;
 
@@ -47,35 +46,7 @@ fn version_of(alloc: Global, world: &World, row: &UserRow) -> Result<u8, Memory>
         part: FilePart::SpBlob,
     };
     let bytes = content(alloc, world, &name)?;
-    Ok(byte_at(bytes.as_slice(), 0))
-}
-
-/// Adds the slot that a `weaver` file names, if it names one.
-fn add_named_slot(earlier: &mut SlotList, bytes: &[u8]) -> Result<(), Memory>
-    ensures added { OnOk result (earlier.new
-        ≡ earlier.old ++ one_or_none (slot_number bytes.now)) }
-{
-    match SlotFile::parse(bytes) {
-        Ok(file) => earlier.push(file.slot),
-        Err(_) => Ok(()),
-    }
-}
-
-/// Adds the slot that a file of this part names, if it names one.
-fn add_slot(earlier: &mut SlotList, part: FilePart, bytes: &[u8]) -> Result<(), Memory>
-    ensures added { OnOk result (earlier.new ≡ earlier.old ++ slot_in part bytes.now) }
-{
-    match part {
-        FilePart::Weaver => add_named_slot(earlier, bytes),
-        FilePart::SpBlob
-        | FilePart::Pwd
-        | FilePart::Secdis
-        | FilePart::Metrics
-        | FilePart::Handle
-        | FilePart::E0
-        | FilePart::P1
-        | FilePart::Resume => Ok(()),
-    }
+    Ok(blob_version(bytes.as_slice()))
 }
 
 /// Passes a file: names its slot, and tells where it is at fault.
@@ -98,7 +69,7 @@ fn pass_file(
     }
     let bytes = content(alloc, world, name)?;
     let bytes = bytes.as_slice();
-    let fault = file_fault(&walk.beside, row, name, bytes);
+    let fault = bytes_fault(&walk.beside, row, name, bytes);
     walk.foreign = foreign_at(name, fault);
     add_slot(&mut walk.beside.earlier, name.part, bytes)
 }
@@ -140,7 +111,7 @@ fn pass_files(
 fn pass_row(
     alloc: Global,
     world: &World,
-    armed: &Option<Armed>,
+    armed: &Option<Arming>,
     row: &UserRow,
     walk: &mut Walk,
 ) -> Result<(), Memory>
@@ -159,7 +130,7 @@ fn pass_row(
 pub(crate) fn pass_rows(
     alloc: Global,
     world: &World,
-    armed: &Option<Armed>,
+    armed: &Option<Arming>,
     rows: &[UserRow],
     walk: &mut Walk,
 ) -> Result<(), Memory>

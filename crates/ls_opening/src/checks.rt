@@ -1,14 +1,15 @@
 //! What is checked of one file.
-ghost use Rattle.std.specs.Prelude.{◌≡◌, ℕ};
+ghost use Rattle.std.specs.Prelude.{◌≡◌, [], ℕ, unwrap_or};
 ghost use Rattle.ls_record.specs.declared.row.UserRow.{UserRow as Row};
 ghost use Rattle.ls_record.specs.Rows.{has};
 ghost use Rattle.ls_formats.specs.declared.part.FilePart.TheVariants as parts;
 ghost use Rattle.ls_standing.specs.Opening.{first_failing, part_checks, has_handle_length, file_fault, is_new_slot, Beside as BesideFile};
 
+use crate::files::bytes_in;
 use crate::number::byte_at;
 use crate::place::{first_of, unless_byte, unless_id, unless_right};
 use byteorder::{BigEndian, ByteOrder};
-use ls_bytes::SlotList;
+use ls_bytes::{Bytes, SlotList};
 use ls_formats::{FilePart, PartName};
 use ls_record::UserRow;
 use ls_sealing::format_fault;
@@ -16,7 +17,7 @@ use std::marker::Model;
 
 /// What a file is checked against.
 #[derive(Drop)]
-pub(crate) struct Beside {
+pub struct Beside {
     /// How many slots the board has.
     pub slots: u32,
     /// The slots that earlier files name.
@@ -142,15 +143,23 @@ fn check_fault(beside: &Beside, row: &UserRow, name: &PartName, bytes: &[u8]) ->
     }
 }
 
-/// The first place at which a file that a row names is at fault.
-pub(crate) fn file_fault(
-    beside: &Beside,
-    row: &UserRow,
-    name: &PartName,
-    bytes: &[u8],
-) -> Option<u32>
+/// The first place, from 0, at which a file with these bytes, which a row names, is at fault.
+pub fn bytes_fault(beside: &Beside, row: &UserRow, name: &PartName, bytes: &[u8]) -> Option<u32>
     ensures same { result ≡ file_fault beside.now row.now name.now bytes.now }
 {
     let format = format_fault(name.part, bytes);
     first_of(format, check_fault(beside, row, name, bytes))
+}
+
+/// The first place, from 0, at which a file that a row names is at fault, by what was read of it.
+/// A file that isn't there is checked as an empty one.
+pub fn file_fault(
+    beside: &Beside,
+    row: &UserRow,
+    name: &PartName,
+    file: &Option<Bytes>,
+) -> Option<u32>
+    ensures same { result ≡ file_fault beside.now row.now name.now (unwrap_or file.now []) }
+{
+    bytes_fault(beside, row, name, bytes_in(file))
 }

@@ -1,6 +1,6 @@
 use Rattle.std.proofs.Common.{ap, sym, ◌∙◌}
 use Rattle.ls_formats.specs.PartNames.{PartOf}
-use Rattle.ls_checker.proofs.checks.check_fault.Goals as goal
+use Rattle.ls_opening.proofs.checks.check_fault.Goals as goal
 
 pub returns-in-Secdis : goal.returns-in-Secdis
 returns-in-Secdis c =
