@@ -1,4 +1,6 @@
+mod FileLemmas
 mod FreshLemmas
 mod ListLemmas
+mod ListedLemmas
 mod SiftLemmas
 mod SlotLemmas

@@ -6,7 +6,7 @@ use Rattle.std.proofs.lemmas.Bool.{eqb-true, eq-eqb, cases_order}
 use Rattle.std.proofs.lemmas.List.{append-nil, take_more}
 use Rattle.std.proofs.lemmas.List.Elements.{Contains-append_left, Contains-append_right, Contains-append_cases}
 use Rattle.ls_naming.specs.Named.{only_if}
-use Rattle.ls_vault.specs.Users.{contains}
+use Rattle.ls_arming.specs.Numbers.{contains}
 use Rattle.ls_sweep.specs.Sifted.{AreThose, AreUnusedBelow}
 
 module _ {X : Type 0} where

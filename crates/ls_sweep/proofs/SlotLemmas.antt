@@ -1,7 +1,7 @@
 -- Fewer numbers than the count leave one below it out.
 use Rattle.std.proofs.Common.{◌≡◌, ◌≢◌, ◌≤◌, ◌<◌, ◌||◌, not, ℕ, zero, suc, Bool, true, false, cond, eqb, List, [], ◌∷◌, length, refl, sym, ◌∙◌, ap, arith}
 use Rattle.std.proofs.lemmas.Bool.{eqb-true, ne_eqb}
-use Rattle.ls_vault.specs.Users.{contains, without_number}
+use Rattle.ls_arming.specs.Numbers.{contains, without_number}
 use Rattle.ls_sweep.specs.FreshIds.{AreTakenBelow}
 
 -- another number stays

@@ -1,7 +1,7 @@
 -- Ids and slots that aren't taken yet.
 use Rattle.std.specs.Prelude.{◌≡◌, true, false, ℕ, ◌+◌, ◌*◌, ◌/◌, ◌<◌, Bool, if◌then◌else◌, List, ◌∷◌, length}
 use Rattle.ls_vault.specs.Fresh.{first_free}
-use Rattle.ls_vault.specs.Users.{contains}
+use Rattle.ls_arming.specs.Numbers.{contains}
 
 -- these numbers, and 0 beside them where the test holds
 abbrev pub beside : Bool → List ℕ → List ℕ

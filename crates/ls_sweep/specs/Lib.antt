@@ -1,3 +1,4 @@
+pub mod Files
 pub mod FreshIds
 pub mod Lines
 pub mod Sifted

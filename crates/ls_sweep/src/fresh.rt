@@ -1,7 +1,7 @@
 //! Numbers that aren't taken yet.
 ghost use Rattle.std.specs.Prelude.{◌≡◌, ◌<◌, ◌==◌, ◌&&◌, ◌||◌, length, IfSome, IfNone, IsSome};
 ghost use Rattle.ls_vault.specs.Fresh.{first_free, fresh};
-ghost use Rattle.ls_vault.specs.Users.{contains};
+ghost use Rattle.ls_arming.specs.Numbers.{contains};
 ghost use Rattle.ls_sweep.specs.FreshIds.{beside, fresh_even, AreTakenBelow, IsLowestFree};
 
 /// Whether the number is taken.

@@ -1,7 +1,7 @@
 //! The slots of a board that aren't named.
 ghost use Rattle.std.specs.Prelude.{◌≡◌, ◌++◌, ◌∷◌, [], not, IfOk, OnOk};
 ghost use Rattle.ls_naming.specs.Named.{only_if};
-ghost use Rattle.ls_vault.specs.Users.{contains};
+ghost use Rattle.ls_arming.specs.Numbers.{contains};
 ghost use Rattle.ls_sweep.specs.Sifted.{AreUnusedBelow};
 
 use ls_bytes::{Memory, SlotList};

@@ -1,7 +1,8 @@
 use Rattle.std.proofs.Common.{◌≡◌, ◌-◌, sym, ◌∙◌, ap, arith}
 use Rattle.ls_vault.specs.Fresh.{first_free}
 use Rattle.ls_sweep.specs.FreshIds.{beside}
-use Rattle.ls_sweep.proofs.FreshLemmas.{barred, free_here, free_step, free_last}
+use Rattle.ls_sweep.proofs.FreshLemmas.{barred}
+use Rattle.ls_vault.proofs.FreshLemmas.{free_here, free_step, free_last}
 use Rattle.ls_sweep.proofs.fresh.first_free.Goals as goal
 
 pub loop-init : goal.loop-init
