@@ -1,1 +1,2 @@
 pub mod AddingLemmas
+mod FirstLemmas

@@ -2,5 +2,7 @@
 #![tactic(auto)]
 
 mod add;
+mod laws;
 
 pub use add::add_user;
+pub use laws::a_first_user_can_be_added;

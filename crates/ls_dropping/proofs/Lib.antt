@@ -1,0 +1,2 @@
+pub mod DroppingLemmas
+pub mod BareLemmas
