@@ -1,0 +1,20 @@
+use Rattle.ls_protector.proofs.RetireLemmas.{erasing_but, erasing_stands, erasing_erases}
+use Rattle.ls_protector.proofs.retiring.retire.Goals as goal
+
+pub returns-in-Ok-clause-erased : goal.returns-in-Ok-clause-erased
+returns-in-Ok-clause-erased g c =
+    erasing_erases (g.B.Board.sight c.args.board.now) (g.B.Board.sight c.erase.new.board) c.named.inside.parts c.args.named c.named.view_is c.in-Ok.ensures.steps (g.met.B.Board.slots_are_told c.args.board.now) c.requires.slot
+
+pub returns-in-Ok-clause-but : goal.returns-in-Ok-clause-but
+returns-in-Ok-clause-but g c = erasing_but (g.B.Board.sight c.args.board.now) (g.B.Board.sight c.erase.new.board) c.named.inside.parts c.args.named c.named.view_is c.erase.result c.erase.ensures.steps
+
+pub returns-in-Ok-clause-stands : goal.returns-in-Ok-clause-stands
+returns-in-Ok-clause-stands g c =
+    erasing_stands (g.B.Board.sight c.args.board.now) (g.B.Board.sight c.erase.new.board) c.named.inside.parts c.args.named c.named.view_is c.erase.result c.erase.ensures.steps c.requires.clear
+
+pub returns-in-Err-clause-but : goal.returns-in-Err-clause-but
+returns-in-Err-clause-but g c = erasing_but (g.B.Board.sight c.args.board.now) (g.B.Board.sight c.erase.new.board) c.named.inside.parts c.args.named c.named.view_is c.erase.result c.erase.ensures.steps
+
+pub returns-in-Err-clause-stands : goal.returns-in-Err-clause-stands
+returns-in-Err-clause-stands g c =
+    erasing_stands (g.B.Board.sight c.args.board.now) (g.B.Board.sight c.erase.new.board) c.named.inside.parts c.args.named c.named.view_is c.erase.result c.erase.ensures.steps c.requires.clear

@@ -1,0 +1,4 @@
+pub mod Parts
+pub mod Clear
+pub mod Settled
+pub mod Steps
