@@ -9,9 +9,9 @@ use Rattle.ls_board.specs.declared.world.World.{World}
 use Rattle.ls_board.specs.Acts.{Sight}
 use Rattle.ls_board.specs.Effect.{file_at}
 use Rattle.ls_top.specs.Runs.{StandsFor, CallsInTurn}
-use Rattle.ls_top.specs.Script.{Parting, parted, lines_of, last_line}
+use Rattle.ls_lines.specs.Lines.{Parting, parted, lines_of, last_line}
 use Rattle.ls_top.specs.Serving.{Serving, CutShort, ComesNext, Progress, Hears}
-use Rattle.ls_top.proofs.ScriptLemmas.{parted_line, parted_byte, next_line, last_lines}
+use Rattle.ls_lines.proofs.PartingLemmas.{parted_line, parted_byte, next_line, last_lines}
 use Rattle.ls_top.proofs.ServingLemmas.{same_calls, one_call, cut_between}
 
 -- ---- a 0x0A

@@ -5,6 +5,5 @@ mod NumberLemmas
 mod OpeningLemmas
 mod RepliesLemmas
 mod RunLemmas
-mod ScriptLemmas
 mod ServingLemmas
 mod VaultLemmas

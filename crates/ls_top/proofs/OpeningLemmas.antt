@@ -19,7 +19,8 @@ use Rattle.ls_top.specs.FoundUsers.{IsFound}
 use Rattle.ls_top.specs.Opening.{ReadsSettings, IsOpening}
 use Rattle.ls_top.specs.RunEnds.{Leaves}
 use Rattle.ls_top.specs.Runs.{StandsFor, HasForeignFile, SameButTouched, CallsInTurn}
-use Rattle.ls_top.specs.Script.{lines_of, replies}
+use Rattle.ls_lines.specs.Lines.{lines_of}
+use Rattle.ls_top.specs.Script.{replies}
 use Rattle.ls_top.specs.Serving.{Serving, CutShort, KeepsOthers}
 use Rattle.ls_top.specs.UsersFile.{settings_0, file_of, IsForeign}
 use Rattle.ls_top.specs.Vault.{IsVault}

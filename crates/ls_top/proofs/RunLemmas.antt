@@ -8,7 +8,7 @@ use Rattle.ls_top.specs.declared.status.Status.TheVariants.{Done, Usage, Foreign
 use Rattle.ls_top.specs.Ending.{IsOutcome}
 use Rattle.ls_top.specs.RunEnds.{IsServeStatus, Leaves, EndsAs, StopsAs}
 use Rattle.ls_top.specs.Runs.{StandsFor, HasForeignFile, SameButTouched, Gives, HoldsFront, IsServed, CallsInTurn}
-use Rattle.ls_top.specs.Script.{parted, lines_of}
+use Rattle.ls_lines.specs.Lines.{parted, lines_of}
 use Rattle.ls_top.specs.Serving.{Serving, CutShort}
 use Rattle.ls_top.specs.UsersFile.{settings_0}
 use Rattle.ls_top.proofs.OpeningLemmas.{idle_leaves, idle_cut, same_others, not_foreign}

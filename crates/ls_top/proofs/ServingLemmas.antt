@@ -13,7 +13,8 @@ use Rattle.ls_board.specs.Effect.{file_at, marked, put_mark}
 use Rattle.ls_board.proofs.FileLemmas.{file_marked_same, file_marked_other}
 use Rattle.ls_top.specs.Runs.{StandsFor, SaysFront, HoldsFront, IsInTurn, CallsInTurn, EndsWithPut}
 use Rattle.ls_top.specs.declared.vault.Command.{Command}
-use Rattle.ls_top.specs.Script.{Served, lines_of, served, served_by, replies, users_after, told, after}
+use Rattle.ls_lines.specs.Lines.{lines_of}
+use Rattle.ls_top.specs.Script.{Served, served, served_by, replies, users_after, told, after}
 use Rattle.ls_top.specs.Serving.{Serving, Settled, CutShort, ComesNext, KeepsOthers}
 use Rattle.ls_top.specs.UsersFile.{settings_0, file_of}
 use Rattle.ls_top.specs.Vault.{IsVault}

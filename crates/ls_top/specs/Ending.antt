@@ -3,7 +3,7 @@ use Rattle.std.specs.Prelude.{◌≡◌, ◌<◌, ◌≤◌, ◌+◌, ◌^◌, �
 use Rattle.ls_board.specs.Acts.{Sight}
 use Rattle.ls_top.specs.declared.hearing.Ending.{Ending}
 use Rattle.ls_top.specs.declared.hearing.Ending.TheVariants.{AtEnd, AtLimit}
-use Rattle.ls_top.specs.Script.{parted, lines_of}
+use Rattle.ls_lines.specs.Lines.{parted, lines_of}
 use Rattle.ls_top.specs.Serving.{Serving, Progress}
 
 -- where the hearing ended

@@ -29,10 +29,6 @@ command_of line =
     if bytes_eq line (add_line (digits_value 10 (operand line))) && nat_lt (digits_value 10 (operand line)) (2 ^ 32)
     then Some (Add (digits_value 10 (operand line))) else None
 
--- a printed reply ends with 0x0A
-abbrev pub ended : List ℕ → List ℕ
-ended text = text ++ 10 ∷ []
-
 -- what is printed for a refusal
 abbrev pub refusal_text : Refusal → List ℕ
 refusal_text UserExists = codes "no user-exists"

@@ -6,7 +6,7 @@ use Rattle.ls_board.specs.Acts.{Sight}
 use Rattle.ls_top.specs.declared.status.Status.{Status}
 use Rattle.ls_top.specs.declared.status.Status.TheVariants.{Done, Foreign, TooLong}
 use Rattle.ls_top.specs.Runs.{StandsFor, HasForeignFile, SameButTouched, SaysFront, HoldsFront, IsServed, CallsInTurn}
-use Rattle.ls_top.specs.Script.{parted, lines_of}
+use Rattle.ls_lines.specs.Lines.{parted, lines_of}
 use Rattle.ls_top.specs.Serving.{KeepsOthers, CutShort}
 use Rattle.ls_top.specs.UsersFile.{settings_0}
 

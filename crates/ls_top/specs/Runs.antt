@@ -8,7 +8,8 @@ use Rattle.ls_board.specs.Acts.{Sight}
 use Rattle.ls_board.specs.Effect.{file_at}
 use Rattle.ls_top.specs.declared.status.Status.{Status}
 use Rattle.ls_top.specs.declared.status.Status.TheVariants.{Fault, Memory}
-use Rattle.ls_top.specs.Script.{parted, lines_of, served, replies, users_after, told, after, acknowledged}
+use Rattle.ls_lines.specs.Lines.{parted, lines_of}
+use Rattle.ls_top.specs.Script.{served, replies, users_after, told, after, acknowledged}
 use Rattle.ls_top.specs.UsersFile.{settings_0, file_of, IsForeign}
 use Rattle.ls_top.specs.Vault.{IsVault}
 

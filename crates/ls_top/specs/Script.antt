@@ -1,44 +1,11 @@
--- A script: its lines, their replies, and the users after each command.
-use Rattle.std.specs.Prelude.{◌≢◌, ◌∷◌, ◌++◌, ◌==◌, ℕ, zero, suc, [], if◌then◌else◌, List, length, take, count_by, Option, Some, None}
-use Rattle.std.specs.List.{AllByRecursion}
+-- A script: the replies to its lines, and the users after each command.
+use Rattle.std.specs.Prelude.{◌∷◌, ◌++◌, ℕ, zero, suc, [], List, length, take, Option, Some, None}
+use Rattle.ls_lines.specs.Lines.{ended_count}
 use Rattle.ls_top.specs.Lines.{command_of}
 use Rattle.ls_top.specs.Printed.{printed_for}
 use Rattle.ls_top.specs.Vault.{step}
 use Rattle.ls_top.specs.declared.vault.Command.{Command}
 use Rattle.ls_top.specs.declared.vault.Reply.{Reply}
-
--- ---- lines
-
--- a script parted at 0x0A: the lines that a 0x0A ends, and what stands behind the last of them
-pub record Parting : Type 0 where
-  pub whole : List (List ℕ)
-  pub rest : List ℕ
-
--- with one byte more at the front, which is no 0x0A
-abbrev pub with_first : ℕ → List (List ℕ) → List ℕ → Parting
-with_first b [] rest = record { whole = []; rest = b ∷ rest }
-with_first b (line ∷ lines) rest = record { whole = (b ∷ line) ∷ lines; rest = rest }
-
-abbrev pub parted : List ℕ → Parting
-parted [] = record { whole = []; rest = [] }
-parted (b ∷ script) =
-    if b == 10 then record { whole = [] ∷ (parted script).whole; rest = (parted script).rest }
-    else with_first b (parted script).whole (parted script).rest
-
--- a last line that no 0x0A ends is a line if it isn't empty
-abbrev pub last_line : List ℕ → List (List ℕ)
-last_line [] = []
-last_line (b ∷ rest) = (b ∷ rest) ∷ []
-
--- the lines of a script
-abbrev pub lines_of : List ℕ → List (List ℕ)
-lines_of script = (parted script).whole ++ last_line (parted script).rest
-
--- no 0x0A stands in it
-abbrev pub HasNoEnd : List ℕ → Type 0
-HasNoEnd bytes = AllByRecursion (λ b. b ≢ 10) bytes
-
--- ---- what they do
 
 -- a command that was carried out or refused: its reply, and the users after it
 pub record Entry : Type 0 where
@@ -87,4 +54,4 @@ after users (entry ∷ entries) (suc count) = after entry.users entries count
 
 -- how many commands were answered: those of as many lines as replies were said to their end
 abbrev pub acknowledged : List ℕ → List (List ℕ) → List ℕ → ℕ
-acknowledged users lines said = length (told users (take (count_by (λ b. b == 10) said) lines))
+acknowledged users lines said = length (told users (take (ended_count said) lines))

@@ -9,7 +9,8 @@ use Rattle.ls_board.specs.declared.world.World.{World}
 use Rattle.ls_board.specs.Acts.{Sight}
 use Rattle.ls_board.specs.Effect.{file_at, weight_of}
 use Rattle.ls_top.specs.Runs.{StandsFor, SaysFront, HoldsFront, CallsInTurn, EndsWithPut}
-use Rattle.ls_top.specs.Script.{parted, lines_of, served, replies, users_after}
+use Rattle.ls_lines.specs.Lines.{parted, lines_of}
+use Rattle.ls_top.specs.Script.{served, replies, users_after}
 use Rattle.ls_top.specs.UsersFile.{settings_0}
 
 -- no other file than `settings.0` was changed

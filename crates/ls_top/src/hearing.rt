@@ -4,7 +4,7 @@ ghost use Rattle.ls_board.specs.Keeping.{Keeps};
 ghost use Rattle.ls_board.specs.declared.action.BoardFault.TheVariants as board_fault;
 ghost use Rattle.ls_board.specs.Acts.{Sight};
 ghost use Rattle.ls_top.specs.Ending.{IsEnding, IsOutcome};
-ghost use Rattle.ls_top.specs.Script.{lines_of};
+ghost use Rattle.ls_lines.specs.Lines.{lines_of};
 ghost use Rattle.ls_top.specs.Serving.{Serving, CutShort, Progress, Hears};
 
 use crate::partial_line::PartialLine;

@@ -2,7 +2,6 @@
 #![tactic(auto)]
 
 mod hearing;
-mod laws;
 mod line;
 mod number;
 mod opening;
@@ -16,7 +15,6 @@ mod users_file;
 mod vault;
 mod words;
 
-pub use laws::scripts_are_parted;
 pub use line::command_of_line;
 pub use plain::replies_of;
 pub use status::Status;

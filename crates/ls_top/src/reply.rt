@@ -1,6 +1,7 @@
 //! What is printed for a line.
 ghost use Rattle.std.specs.Prelude.{◌≡◌, ◌≢◌, ◌≤◌, ℕ, List, length, IfOk, OnErr, Some, None, count_by, ◌==◌};
-ghost use Rattle.ls_top.specs.Lines.{ended, reply_text, syntax_text};
+ghost use Rattle.ls_lines.specs.Lines.{ended};
+ghost use Rattle.ls_top.specs.Lines.{reply_text, syntax_text};
 ghost use Rattle.ls_top.specs.Printed.{printed_for};
 ghost use Rattle.ls_top.specs.Script.{served};
 

@@ -7,7 +7,7 @@ ghost use Rattle.ls_board.specs.Acts.{Rose};
 ghost use Rattle.ls_board.specs.Effect.{file_at};
 ghost use Rattle.ls_top.specs.Runs.{StandsFor, HasForeignFile, SameButTouched, IsFault, Gives, SaysFront, HoldsFront, IsServed, CallsInTurn, EndsWithPut};
 ghost use Rattle.ls_top.specs.RunEnds.{IsServeStatus, EndsAs, StopsAs};
-ghost use Rattle.ls_top.specs.Script.{lines_of, parted};
+ghost use Rattle.ls_lines.specs.Lines.{lines_of, parted};
 ghost use Rattle.ls_top.specs.UsersFile.{settings_0};
 ghost use Rattle.ls_top.specs.Words.{IsRun};
 

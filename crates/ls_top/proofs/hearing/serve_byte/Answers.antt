@@ -1,6 +1,6 @@
 use Rattle.std.proofs.Common.{◌≡◌, ◌++◌, ◌∷◌, [], ℕ, List, sym, ◌∙◌, ap, subst}
 use Rattle.std.proofs.lemmas.Result.{err_from_is_err_and}
-use Rattle.ls_top.specs.Script.{parted}
+use Rattle.ls_lines.specs.Lines.{parted}
 use Rattle.ls_top.specs.Serving.{Progress}
 use Rattle.ls_top.proofs.ServingLemmas.{any_err}
 use Rattle.ls_top.proofs.HearingLemmas.{line_next, line_ended, byte_kept, cut_progress, other_byte}

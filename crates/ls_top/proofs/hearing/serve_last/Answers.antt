@@ -1,6 +1,6 @@
 use Rattle.std.proofs.Common.{arith, ◌<◌, length, ◌∙◌}
 use Rattle.std.proofs.lemmas.Grind.{common_steps}
-use Rattle.ls_top.specs.Script.{parted}
+use Rattle.ls_lines.specs.Lines.{parted}
 use Rattle.ls_top.proofs.HearingLemmas.{last_next}
 use Rattle.ls_top.proofs.hearing.serve_last.Goals as goal
 

@@ -1,5 +1,6 @@
 use Rattle.std.proofs.Common.{◌≡◌, ◌++◌, length}
-use Rattle.ls_top.specs.Script.{lines_of, replies}
+use Rattle.ls_lines.specs.Lines.{lines_of}
+use Rattle.ls_top.specs.Script.{replies}
 use Rattle.ls_top.proofs.plain.replies_of.Given as goal
 
 abbrev pub invariant-loop-rest : goal.invariant-loop-rest

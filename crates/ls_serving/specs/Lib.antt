@@ -1,0 +1,11 @@
+pub mod Beside
+pub mod Calls
+pub mod Ending
+pub mod Hearing
+pub mod Held
+pub mod Machine
+pub mod Met
+pub mod Owed
+pub mod Serving
+pub mod Settled
+pub mod Turns
