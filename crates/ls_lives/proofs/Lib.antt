@@ -1,0 +1,3 @@
+mod HistoryLemmas
+mod LivesLemmas
+mod WorldLemmas

@@ -1,0 +1,3 @@
+pub mod Told
+pub mod Lives
+pub mod Worlds
