@@ -2,6 +2,7 @@
 
 use crate::fault::RowFault;
 use crate::words::{number_of, said_of};
+use ls_arming::UserNumbers;
 use ls_vault::{Books, SessionState, State, Table, Vault, replies, restart};
 use std::alloc::Global;
 use std::mem;
@@ -99,10 +100,10 @@ fn nobody(alloc: Global, kept: u64) -> State {
         books: books(alloc, kept),
         session: SessionState {
             boot: 0,
-            opened: Table::new(alloc),
+            opened: UserNumbers::new(alloc),
             pending: Table::new(alloc),
             prepared: false,
-            captured: Table::new(alloc),
+            captured: UserNumbers::new(alloc),
         },
     }
 }
@@ -110,6 +111,6 @@ fn nobody(alloc: Global, kept: u64) -> State {
 fn books(alloc: Global, kept: u64) -> Books {
     Books {
         kept,
-        dead: Table::new(alloc),
+        dead: UserNumbers::new(alloc),
     }
 }

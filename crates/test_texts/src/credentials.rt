@@ -55,23 +55,17 @@ pub fn metrics_of(alloc: Global, kind: Kind, text: &[u8]) -> Result<Metrics, Row
 /// The kind and the nine counts, in their order in a file.
 pub fn counts_of(alloc: Global, metrics: &Metrics) -> Result<String, RowFault> {
     let kind = name_of(metrics.kind);
-    let Metrics {
-        length,
-        letters,
-        upper,
-        lower,
-        ..
-    } = *metrics;
-    let Metrics {
-        numeric,
-        symbols,
-        non_letter,
-        non_numeric,
-        run,
-        ..
-    } = *metrics;
     made(format!(in alloc;
-        "{kind} {length} {letters} {upper} {lower} {numeric} {symbols} {non_letter} {non_numeric} {run}"
+        "{kind} {} {} {} {} {} {} {} {} {}",
+        metrics.length,
+        metrics.letters,
+        metrics.upper,
+        metrics.lower,
+        metrics.numeric,
+        metrics.symbols,
+        metrics.non_letter,
+        metrics.non_numeric,
+        metrics.run
     ))
 }
 

@@ -130,8 +130,24 @@ fn short(key: &[u8]) -> Result<Subkey, RowFault> {
     Ok(Subkey::Short(array_of(key)?))
 }
 
-/// The user with the longest words: keys of version 2, and two digits in each count.
-fn longest() -> Revealed {
+/// The most that is counted: two digits in each count.
+fn most_counted() -> Metrics {
+    Metrics {
+        kind: Kind::Password,
+        length: 16,
+        letters: 10,
+        upper: 10,
+        lower: 16,
+        numeric: 10,
+        symbols: 10,
+        non_letter: 10,
+        non_numeric: 16,
+        run: 16,
+    }
+}
+
+/// The user with the longest words: keys of version 2, and these metrics.
+fn longest(metrics: Option<Metrics>) -> Revealed {
     let key = Subkey::Long([7; 64]);
     Revealed {
         user: 4294967295,
@@ -142,18 +158,7 @@ fn longest() -> Revealed {
             gk: key,
         },
         secure: 1,
-        metrics: Some(Metrics {
-            kind: Kind::Password,
-            length: 16,
-            letters: 10,
-            upper: 10,
-            lower: 16,
-            numeric: 10,
-            symbols: 10,
-            non_letter: 10,
-            non_numeric: 16,
-            run: 16,
-        }),
+        metrics,
     }
 }
 
@@ -174,7 +179,8 @@ pub fn resumed_size(alloc: Global, args: &[Vec<u8>]) -> Result<String, RowFault>
 fn resumed(alloc: Global, users: u8) -> Result<Reply, Memory> {
     let mut revealed = RevealedList::new(alloc);
     for _ in 0..users {
-        revealed.push(longest())?;
+        let metrics = Some(most_counted());
+        revealed.push(longest(metrics))?;
     }
     Ok(Reply::Resumed(revealed))
 }

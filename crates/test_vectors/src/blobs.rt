@@ -1,59 +1,57 @@
 //! Texts that are sealed under a personalisation, and blobs.
 
-use crate::fault::RowFault;
-use crate::words::{array_of, digits_of, opening_of};
+use crate::answer::Answer;
+use crate::ciphers::opening;
+use crate::words::array_of;
 use ls_blob::{BlobFault, BlobKind, SpBlob, open_under, seal_under};
 use std::alloc::Global;
 
-pub fn sealed(alloc: Global, args: &[Vec<u8>]) -> Result<String, RowFault> {
+pub fn sealed(alloc: Global, to: &mut Answer, args: &[Vec<u8>]) {
     match args {
         [key, personal, iv, plain] if personal.len() <= 128 && plain.len() <= 1 << 24 => {
-            let sealed = seal_under(alloc, key, personal, &array_of(iv)?, plain)?;
-            digits_of(alloc, sealed.as_slice())
+            to.bytes(seal_under(alloc, key, personal, &array_of(iv), plain));
         }
-        _ => Err(RowFault::Form),
+        _ => to.is_no_row(),
     }
 }
 
-pub fn opened(alloc: Global, args: &[Vec<u8>]) -> Result<String, RowFault> {
+pub fn opened(alloc: Global, to: &mut Answer, args: &[Vec<u8>]) {
     match args {
         [key, personal, sealed] if personal.len() <= 128 => {
-            match open_under(alloc, key, personal, sealed) {
-                Ok(plain) => opening_of(alloc, Ok(plain.as_slice())),
-                Err(fault) => opening_of(alloc, Err(fault)),
-            }
+            opening(to, open_under(alloc, key, personal, sealed));
         }
-        _ => Err(RowFault::Form),
+        _ => to.is_no_row(),
     }
 }
 
 /// The version and the kind of a blob, and its bytes as they are printed; or its first fault.
-pub fn parsed(alloc: Global, args: &[Vec<u8>]) -> Result<String, RowFault> {
+pub fn parsed(alloc: Global, to: &mut Answer, args: &[Vec<u8>]) {
     match args {
         [bytes] => match SpBlob::parse(alloc, bytes) {
-            Ok(blob) => printed(alloc, &blob),
-            Err(fault) => fault_text(alloc, fault),
+            Ok(blob) => printed(alloc, to, &blob),
+            Err(fault) => fault_of(to, fault),
         },
-        _ => Err(RowFault::Form),
+        _ => to.is_no_row(),
     }
 }
 
-fn printed(alloc: Global, blob: &SpBlob) -> Result<String, RowFault> {
-    let kind = match blob.kind {
+fn printed(alloc: Global, to: &mut Answer, blob: &SpBlob) {
+    to.number(u64::from(blob.version));
+    to.word(match blob.kind {
         BlobKind::Credential => "credential",
         BlobKind::StrongToken => "token",
-    };
-    let version = blob.version;
-    let digits = digits_of(alloc, blob.print(alloc)?.as_slice())?;
-    Ok(format!(in alloc; "{version} {kind} {digits}")?)
+    });
+    to.bytes(blob.print(alloc));
 }
 
-fn fault_text(alloc: Global, fault: BlobFault) -> Result<String, RowFault> {
-    match fault {
-        BlobFault::Short { at } => Ok(format!(in alloc; "short {at}")?),
-        BlobFault::Version(version) => Ok(format!(in alloc; "version {version}")?),
-        BlobFault::Kind(kind) => Ok(format!(in alloc; "kind {kind}")?),
-        BlobFault::Extra { at } => Ok(format!(in alloc; "extra {at}")?),
-        BlobFault::Memory => Err(RowFault::Memory),
-    }
+fn fault_of(to: &mut Answer, fault: BlobFault) {
+    let (word, number) = match fault {
+        BlobFault::Short { at } => ("short", u64::from(at)),
+        BlobFault::Version(version) => ("version", u64::from(version)),
+        BlobFault::Kind(kind) => ("kind", u64::from(kind)),
+        BlobFault::Extra { at } => ("extra", u64::from(at)),
+        BlobFault::Memory => return to.lacks_memory(),
+    };
+    to.word(word);
+    to.number(number);
 }

@@ -1,25 +1,29 @@
 //! The chain from a text to what a protector seals, and how much is planned to build one.
+ghost use Rattle.std.specs.Prelude.{◌≡◌, is_some, true};
 
-use crate::fault::RowFault;
-use crate::words::{array_of, byte_of, digits_of, half_of, long_of};
+use crate::answer::{Answer, RowFault};
+use crate::words::{array_of, byte_of, half_of, number_of};
 use ls_board::Plan;
+use ls_bytes::Memory;
 use ls_credential::{Credential, CredentialFault, Kind};
 use ls_sealing::{
     Place, credential_plan, discardable_share, gatekeeper_password, layered, stretched,
     stretched_default, token_plan, value_share, weaver_key,
 };
 use ls_secret::Secret;
-use std::alloc::Global;
+use std::alloc::{AllocError, Global};
 
 /// The key by which a PIN with this salt reads its slot.
-pub fn key(alloc: Global, args: &[Vec<u8>]) -> Result<String, RowFault> {
+pub fn key(alloc: Global, to: &mut Answer, args: &[Vec<u8>]) {
     match args {
-        [pin, salt] => {
-            let pin = credential_of(alloc, Kind::Pin, pin)?;
-            let text = stretched(alloc, &pin, &array_of(salt)?)?;
-            digits_of(alloc, &weaver_key(&text))
-        }
-        _ => Err(RowFault::Form),
+        [pin, salt] => match credential_of(alloc, Kind::Pin, pin) {
+            Ok(pin) => match stretched(alloc, &pin, &array_of(salt)) {
+                Ok(text) => to.digits(&weaver_key(&text)),
+                Err(_) => to.lacks_memory(),
+            },
+            Err(fault) => to.fails(fault),
+        },
+        _ => to.is_no_row(),
     }
 }
 
@@ -33,100 +37,132 @@ pub fn credential_of(alloc: Global, kind: Kind, text: &[u8]) -> Result<Credentia
 }
 
 /// The same key where there is no credential.
-pub fn default_key(alloc: Global, args: &[Vec<u8>]) -> Result<String, RowFault> {
+pub fn default_key(to: &mut Answer) {
+    to.digits(&weaver_key(&stretched_default()));
+}
+
+pub fn password(to: &mut Answer, args: &[Vec<u8>]) {
     match args {
-        [] => digits_of(alloc, &weaver_key(&stretched_default())),
-        _ => Err(RowFault::Form),
+        [text] => to.digits(&gatekeeper_password(text)),
+        _ => to.is_no_row(),
     }
 }
 
-pub fn password(alloc: Global, args: &[Vec<u8>]) -> Result<String, RowFault> {
+pub fn value(to: &mut Answer, args: &[Vec<u8>]) {
     match args {
-        [text] => digits_of(alloc, &gatekeeper_password(text)),
-        _ => Err(RowFault::Form),
+        [value] => to.digits(&value_share(value)),
+        _ => to.is_no_row(),
     }
 }
 
-pub fn value(alloc: Global, args: &[Vec<u8>]) -> Result<String, RowFault> {
+pub fn discardable(to: &mut Answer, args: &[Vec<u8>]) {
     match args {
-        [value] => digits_of(alloc, &value_share(value)),
-        _ => Err(RowFault::Form),
-    }
-}
-
-pub fn discardable(alloc: Global, args: &[Vec<u8>]) -> Result<String, RowFault> {
-    match args {
-        [bytes] => digits_of(alloc, &discardable_share(bytes)),
-        _ => Err(RowFault::Form),
+        [bytes] => to.digits(&discardable_share(bytes)),
+        _ => to.is_no_row(),
     }
 }
 
 /// The secret of two halves in two layers, where there is no credential: key, value of the slot,
 /// inner and outer iv, halves.
-pub fn sealed(alloc: Global, args: &[Vec<u8>]) -> Result<String, RowFault> {
+pub fn sealed(alloc: Global, to: &mut Answer, args: &[Vec<u8>]) {
     match args {
-        [key, value, inner, outer, p0, p1] => {
-            let secret = Secret::create(alloc, &array_of(p0)?, &array_of(p1)?)?;
-            let mut protector = Vec::from_slice(alloc, &stretched_default())?;
-            protector.extend_from_slice(&value_share(value))?;
-            let key = array_of(key)?;
-            let inner = array_of(inner)?;
-            let outer = array_of(outer)?;
-            let text = secret.sp_text();
-            let content = layered(alloc, &key, &protector, &inner, &outer, text)?;
-            digits_of(alloc, content.as_slice())
-        }
-        _ => Err(RowFault::Form),
+        [keys @ .., p0, p1] => match Secret::create(alloc, &array_of(p0), &array_of(p1)) {
+            Ok(secret) => sealed_secret(alloc, to, keys, &secret),
+            Err(_) => to.lacks_memory(),
+        },
+        _ => to.is_no_row(),
     }
 }
 
-/// The weight of a plan for a secret of two halves without a credential: user, id, slot, drawn bytes.
-pub fn credential_weight(alloc: Global, args: &[Vec<u8>]) -> Result<String, RowFault> {
-    match args {
-        [user, id, slot, p0, p1, drawn] if drawn.len() == 72 => {
-            let secret = Secret::create(alloc, &array_of(p0)?, &array_of(p1)?)?;
-            let place = Place {
-                user: half_of(user)?,
-                id: long_of(id)?,
-                slot: Some(half_of(slot)?),
-            };
-            if place.id == 0 {
-                return Err(RowFault::Form);
+fn sealed_secret(alloc: Global, to: &mut Answer, keys: &[Vec<u8>], secret: &Secret) {
+    match keys {
+        [key, value, inner, outer] => match protector_of(alloc, value) {
+            Ok(protector) => {
+                let key = array_of(key);
+                let (inner, outer) = (array_of(inner), array_of(outer));
+                to.bytes(layered(alloc, &key, &protector, &inner, &outer, secret.sp_text()));
             }
-            let none = Credential::none(alloc)?;
+            Err(_) => to.lacks_memory(),
+        },
+        _ => to.is_no_row(),
+    }
+}
+
+/// The stretched default text, and what the value of a slot adds to it.
+fn protector_of(alloc: Global, value: &[u8]) -> Result<Vec<u8>, AllocError> {
+    let mut protector = Vec::from_slice(alloc, &stretched_default())?;
+    protector.extend_from_slice(&value_share(value))?;
+    Ok(protector)
+}
+
+/// The weight of a plan for a secret of two halves without a credential: user, id, slot, halves,
+/// drawn bytes.
+pub fn credential_weight(alloc: Global, to: &mut Answer, args: &[Vec<u8>]) {
+    match args {
+        [user, id, slot, p0, p1, drawn] => {
+            let place = Place {
+                user: half_of(user),
+                id: number_of(id),
+                slot: Some(half_of(slot)),
+            };
+            match Secret::create(alloc, &array_of(p0), &array_of(p1)) {
+                Ok(secret) => default_weight(alloc, to, &place, &secret, drawn),
+                Err(_) => to.lacks_memory(),
+            }
+        }
+        _ => to.is_no_row(),
+    }
+}
+
+fn default_weight(alloc: Global, to: &mut Answer, place: &Place, secret: &Secret, drawn: &[u8])
+    requires slot { is_some place.now.slot ≡ true }
+{
+    if place.id == 0 || drawn.len() != 72 {
+        return to.is_no_row();
+    }
+    match Credential::none(alloc) {
+        Ok(none) => {
             let text = stretched_default();
             weight(
-                alloc,
-                &credential_plan(alloc, &place, &none, &secret, drawn, &text, &None)?,
-            )
+                to,
+                credential_plan(alloc, place, &none, secret, drawn, &text, &None),
+            );
         }
-        _ => Err(RowFault::Form),
+        Err(_) => to.lacks_memory(),
     }
 }
 
 /// The weight of a plan for a token without a slot: user, id, token, version, first half, drawn
 /// bytes.
-pub fn token_weight(alloc: Global, args: &[Vec<u8>]) -> Result<String, RowFault> {
+pub fn token_weight(alloc: Global, to: &mut Answer, args: &[Vec<u8>]) {
     match args {
         [user, id, token, version, p0, drawn] if drawn.len() == 16440 => {
             let place = Place {
-                user: half_of(user)?,
-                id: long_of(id)?,
+                user: half_of(user),
+                id: number_of(id),
                 slot: None,
             };
-            let version = byte_of(version)?;
+            let version = byte_of(version);
             if place.id == 0 || version < 2 || version > 3 {
-                return Err(RowFault::Form);
+                return to.is_no_row();
             }
-            let plan = token_plan(alloc, &place, token, version, &array_of(p0)?, drawn)?;
-            weight(alloc, &plan)
+            weight(
+                to,
+                token_plan(alloc, &place, token, version, &array_of(p0), drawn),
+            );
         }
-        _ => Err(RowFault::Form),
+        _ => to.is_no_row(),
     }
 }
 
 /// How many actions a plan has, and how many bytes they hold.
-fn weight(alloc: Global, plan: &Plan) -> Result<String, RowFault> {
-    let (actions, bytes) = plan.weight();
-    Ok(format!(in alloc; "{actions} {bytes}")?)
+fn weight(to: &mut Answer, plan: Result<Plan, Memory>) {
+    match plan {
+        Ok(plan) => {
+            let (actions, bytes) = plan.weight();
+            to.number(u64::from(actions));
+            to.number(bytes);
+        }
+        Err(_) => to.lacks_memory(),
+    }
 }

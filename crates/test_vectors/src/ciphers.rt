@@ -1,83 +1,92 @@
 //! AES-256 and GCM.
 
-use crate::fault::RowFault;
-use crate::words::{array_of, digits_of, number_of, opening_of};
-use ls_gcm::{Aes256, HTable, open, seal, times_h};
+use crate::answer::Answer;
+use crate::words::{array_of, half_of};
+use ls_bytes::Bytes;
+use ls_gcm::{Aes256, HTable, OpenFault, open, seal, times_h};
 use sha2::{Digest, Sha256};
 use std::alloc::{AllocError, Global};
 
-pub fn encrypted(alloc: Global, args: &[Vec<u8>]) -> Result<String, RowFault> {
+pub fn encrypted(to: &mut Answer, args: &[Vec<u8>]) {
     match args {
         [key, block] => {
-            let cipher = Aes256::new(&array_of(key)?);
-            digits_of(alloc, &cipher.encrypt_block(&array_of(block)?))
+            let cipher = Aes256::new(&array_of(key));
+            to.digits(&cipher.encrypt_block(&array_of(block)));
         }
-        _ => Err(RowFault::Form),
+        _ => to.is_no_row(),
     }
 }
 
-pub fn multiplied(alloc: Global, args: &[Vec<u8>]) -> Result<String, RowFault> {
+pub fn multiplied(to: &mut Answer, args: &[Vec<u8>]) {
     match args {
         [h, block] => {
-            let table = HTable::of(&array_of(h)?);
-            digits_of(alloc, &times_h(&table, &array_of(block)?))
+            let table = HTable::of(&array_of(h));
+            to.digits(&times_h(&table, &array_of(block)));
         }
-        _ => Err(RowFault::Form),
+        _ => to.is_no_row(),
     }
 }
 
-pub fn sealed(alloc: Global, args: &[Vec<u8>]) -> Result<String, RowFault> {
+pub fn sealed(alloc: Global, to: &mut Answer, args: &[Vec<u8>]) {
     match args {
         [key, iv, plain] if plain.len() <= 1 << 24 => {
-            let key = array_of(key)?;
-            let iv = array_of(iv)?;
-            let sealed = seal(alloc, &key, &iv, plain)?;
-            digits_of(alloc, sealed.as_slice())
+            to.bytes(seal(alloc, &array_of(key), &array_of(iv), plain));
         }
-        _ => Err(RowFault::Form),
+        _ => to.is_no_row(),
     }
 }
 
 /// The digest of what bytes 0, 7, 14 and so on, modulo 256, are sealed to.
-pub fn sealed_sevens(alloc: Global, args: &[Vec<u8>]) -> Result<String, RowFault> {
+pub fn sealed_sevens(alloc: Global, to: &mut Answer, args: &[Vec<u8>]) {
     match args {
-        [key, iv, len] => {
-            let key = array_of(key)?;
-            let iv = array_of(iv)?;
-            let plain = sevens(alloc, number_of(len)?)?;
-            sealed_digest(alloc, &key, &iv, &plain)
-        }
-        _ => Err(RowFault::Form),
+        [key, iv, len] => match sevens(alloc, half_of(len)) {
+            Ok(plain) => sealed_digest(alloc, to, &array_of(key), &array_of(iv), &plain),
+            Err(_) => to.lacks_memory(),
+        },
+        _ => to.is_no_row(),
     }
 }
 
-fn sealed_digest(
-    alloc: Global,
-    key: &[u8; 32],
-    iv: &[u8; 12],
-    plain: &[u8],
-) -> Result<String, RowFault> {
+fn sealed_digest(alloc: Global, to: &mut Answer, key: &[u8; 32], iv: &[u8; 12], plain: &[u8]) {
     if plain.len() > 1 << 24 {
-        return Err(RowFault::Form);
+        return to.is_no_row();
     }
-    let sealed = seal(alloc, key, iv, plain)?;
-    digits_of(alloc, &Sha256::digest(sealed.as_slice()))
+    match seal(alloc, key, iv, plain) {
+        Ok(sealed) => to.digits(&Sha256::digest(sealed.as_slice())),
+        Err(_) => to.lacks_memory(),
+    }
 }
 
-fn sevens(alloc: Global, len: u16) -> Result<Vec<u8>, AllocError> {
+fn sevens(alloc: Global, len: u32) -> Result<Vec<u8>, AllocError> {
     let mut bytes = Vec::new(alloc);
-    for i in 0..u32::from(len) {
-        bytes.push((i * 7 % 256) as u8)?;
+    let mut next: u8 = 0;
+    for _ in 0..len {
+        bytes.push(next)?;
+        next = next.wrapping_add(7);
     }
     Ok(bytes)
 }
 
-pub fn opened(alloc: Global, args: &[Vec<u8>]) -> Result<String, RowFault> {
+pub fn opened(alloc: Global, to: &mut Answer, args: &[Vec<u8>]) {
     match args {
-        [key, sealed] => match open(alloc, &array_of(key)?, sealed) {
-            Ok(plain) => opening_of(alloc, Ok(plain.as_slice())),
-            Err(fault) => opening_of(alloc, Err(fault)),
-        },
-        _ => Err(RowFault::Form),
+        [key, sealed] if key.len() == 32 => opening(to, open(alloc, &array_of(key), sealed)),
+        _ => to.is_no_row(),
+    }
+}
+
+/// The opened text, or why it isn't opened.
+pub fn opening(to: &mut Answer, opened: Result<Bytes, OpenFault>) {
+    match opened {
+        Ok(plain) => to.digits(plain.as_slice()),
+        Err(fault) => no_opening(to, fault),
+    }
+}
+
+/// Why a text isn't opened.
+pub fn no_opening(to: &mut Answer, fault: OpenFault) {
+    match fault {
+        OpenFault::Short => to.word("short"),
+        OpenFault::Tag => to.word("tag"),
+        OpenFault::Memory => to.lacks_memory(),
     }
 }

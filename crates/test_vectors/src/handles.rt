@@ -1,117 +1,85 @@
 //! Handles of passwords, and the device that checks them.
 
-use crate::fault::RowFault;
-use crate::words::{array_of, byte_of, digits_of, long_of, put_word, word_of};
+use crate::answer::Answer;
+use crate::words::{array_of, byte_of, number_of, word_of};
 use ls_board::GkTable;
+use ls_bytes::Memory;
 use ls_gatekeeper::{Gatekeeper, Verify};
 use std::alloc::Global;
 
 /// The handle of a password for this id and salt: key, id, salt, password.
-pub fn signed(alloc: Global, args: &[Vec<u8>]) -> Result<String, RowFault> {
+pub fn signed(alloc: Global, to: &mut Answer, args: &[Vec<u8>]) {
     match args {
         [key, sid, salt, password] => {
-            let device = Gatekeeper::new(alloc, array_of(key)?);
-            digits_of(alloc, &device.sign(long_of(sid)?, long_of(salt)?, password))
+            let device = Gatekeeper::new(alloc, array_of(key));
+            to.digits(&device.sign(number_of(sid), number_of(salt), password));
         }
-        _ => Err(RowFault::Form),
+        _ => to.is_no_row(),
     }
 }
 
-/// A device and the handle that it is asked about.
-#[derive(Drop)]
-struct Held {
-    device: Gatekeeper,
-    handle: [u8; 49],
-}
-
 /// A device with this key and no records, and a handle of zeros.
-pub fn gatekeeper(alloc: Global, args: &[Vec<u8>]) -> Result<String, RowFault> {
+pub fn gatekeeper(alloc: Global, to: &mut Answer, args: &[Vec<u8>]) {
     match args {
-        [key, asks @ ..] => {
-            let mut held = Held {
-                device: Gatekeeper::new(alloc, array_of(key)?),
-                handle: [0; 49],
-            };
-            let mut answers = String::new(alloc);
+        [key, asks @ ..] if key.len() == 32 => {
+            let mut device = Gatekeeper::new(alloc, array_of(key));
+            let mut handle = [0; 49];
             for ask in asks.chunks(3) {
-                put_word(&mut answers, asked(alloc, &mut held, ask)?.as_str())?;
+                asked(alloc, to, &mut device, &mut handle, ask);
             }
-            Ok(answers)
         }
-        _ => Err(RowFault::Form),
+        _ => to.is_no_row(),
     }
 }
 
 /// `sign` makes the handle, for an id and a password with the salt 3, and `turn` turns bits of a byte
 /// of it over; `verify` has a password and a moment.
-fn asked(alloc: Global, held: &mut Held, ask: &[Vec<u8>]) -> Result<String, RowFault> {
-    match ask {
-        [name, one, other] => match word_of(name)? {
-            "verify" => verify_text(
-                alloc,
-                held.device.verify(&held.handle, one, long_of(other)?),
-            ),
-            name => {
-                told(alloc, held, name, one, other)?;
-                Ok(String::new(alloc))
-            }
-        },
-        _ => Err(RowFault::Form),
-    }
-}
-
-/// What has no answer.
-fn told(
+fn asked(
     alloc: Global,
-    held: &mut Held,
-    name: &str,
-    one: &[u8],
-    other: &[u8],
-) -> Result<(), RowFault> {
-    match name {
-        "enroll" => enroll(&mut held.device, long_of(one)?),
-        "forget" => {
-            held.device.forget(long_of(one)?);
-            Ok(())
-        }
-        "sign" => {
-            held.handle = held.device.sign(long_of(one)?, 3, other);
-            Ok(())
-        }
-        "turn" => turn(&mut held.handle, byte_of(one)?, byte_of(other)?),
-        "copy" => copy(alloc, &mut held.device),
-        _ => Err(RowFault::Form),
+    to: &mut Answer,
+    device: &mut Gatekeeper,
+    handle: &mut [u8; 49],
+    ask: &[Vec<u8>],
+) {
+    match ask {
+        [name, one, other] => match word_of(name) {
+            "verify" => verified(to, device.verify(handle, one, number_of(other))),
+            "enroll" => to.done(enroll(device, number_of(one))),
+            "forget" => device.forget(number_of(one)),
+            "sign" => *handle = device.sign(number_of(one), 3, other),
+            "turn" => turn(to, handle, byte_of(one), byte_of(other)),
+            "copy" => to.done(copy(alloc, device)),
+            _ => to.is_no_row(),
+        },
+        _ => to.is_no_row(),
     }
 }
 
-fn enroll(device: &mut Gatekeeper, sid: u64) -> Result<(), RowFault> {
+fn enroll(device: &mut Gatekeeper, sid: u64) -> Result<(), Memory> {
     device.reserve(1)?;
     device.enroll(sid);
     Ok(())
 }
 
 /// The device goes on as one with the same key and a copy of the records.
-fn copy(alloc: Global, device: &mut Gatekeeper) -> Result<(), RowFault> {
+fn copy(alloc: Global, device: &mut Gatekeeper) -> Result<(), Memory> {
     let records = GkTable::of(device.records().copy(alloc)?);
     *device = Gatekeeper::of(device.key(), records);
     Ok(())
 }
 
-fn turn(handle: &mut [u8; 49], at: u8, bits: u8) -> Result<(), RowFault> {
+fn turn(to: &mut Answer, handle: &mut [u8; 49], at: u8, bits: u8) {
     match handle.get_mut(usize::from(at)) {
-        Some(byte) => {
-            *byte ^= bits;
-            Ok(())
-        }
-        None => Err(RowFault::Form),
+        Some(byte) => *byte ^= bits,
+        None => to.is_no_row(),
     }
 }
 
-fn verify_text(alloc: Global, answer: Verify) -> Result<String, RowFault> {
+fn verified(to: &mut Answer, answer: Verify) {
     match answer {
-        Verify::Accepted(sid) => Ok(format!(in alloc; "accepted-{sid}")?),
-        Verify::Wrong(rest) => Ok(format!(in alloc; "wrong-{rest}")?),
-        Verify::Throttled(rest) => Ok(format!(in alloc; "throttled-{rest}")?),
-        Verify::Unknown => Ok("unknown".to_string(alloc)?),
+        Verify::Accepted(sid) => to.joined("accepted", sid),
+        Verify::Wrong(rest) => to.joined("wrong", rest),
+        Verify::Throttled(rest) => to.joined("throttled", rest),
+        Verify::Unknown => to.word("unknown"),
     }
 }

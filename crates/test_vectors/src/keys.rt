@@ -1,113 +1,90 @@
 //! Keys by their aliases, and the cell for one key.
 
-use crate::fault::RowFault;
-use crate::words::{array_of, digits_of, long_of, put_word, word_of};
+use crate::answer::Answer;
+use crate::words::{array_of, number_of, word_of};
 use ls_board::KeyTable;
+use ls_bytes::Memory;
 use ls_keys::{KeyFault, KeyStore, ResumeCell};
 use std::alloc::Global;
 
 /// A store without keys.
-pub fn store(alloc: Global, args: &[Vec<u8>]) -> Result<String, RowFault> {
+pub fn store(alloc: Global, to: &mut Answer, args: &[Vec<u8>]) {
     let mut store = KeyStore::new(alloc);
-    let mut answers = String::new(alloc);
     for ask in args.chunks(3) {
-        put_word(&mut answers, ask_store(alloc, &mut store, ask)?.as_str())?;
+        ask_store(alloc, to, &mut store, ask);
     }
-    Ok(answers)
 }
 
 /// `put` has an alias and a key, `open` an alias and a sealed text, `drop` an alias; with `copy` the
 /// store goes on as one with a copy of the keys.
-fn ask_store(alloc: Global, store: &mut KeyStore, ask: &[Vec<u8>]) -> Result<String, RowFault> {
+fn ask_store(alloc: Global, to: &mut Answer, store: &mut KeyStore, ask: &[Vec<u8>]) {
     match ask {
-        [name, alias, bytes] => match word_of(name)? {
-            "open" => opened(alloc, store, long_of(alias)?, bytes),
-            name => {
-                told(alloc, store, name, alias, bytes)?;
-                Ok(String::new(alloc))
-            }
+        [name, alias, bytes] => match word_of(name) {
+            "open" => opened(alloc, to, store, number_of(alias), bytes),
+            "put" if bytes.len() == 32 => to.done(put(store, number_of(alias), &array_of(bytes))),
+            "drop" => store.drop_key(number_of(alias)),
+            "copy" => to.done(copy(alloc, store)),
+            _ => to.is_no_row(),
         },
-        _ => Err(RowFault::Form),
+        _ => to.is_no_row(),
     }
 }
 
-fn opened(alloc: Global, store: &KeyStore, alias: u64, sealed: &[u8]) -> Result<String, RowFault> {
+fn opened(alloc: Global, to: &mut Answer, store: &KeyStore, alias: u64, sealed: &[u8]) {
     match store.open(alloc, alias, sealed) {
-        Ok(text) => digits_of(alloc, text.as_slice()),
-        Err(KeyFault::NoKey) => Ok("no-key".to_string(alloc)?),
-        Err(KeyFault::Tag) => Ok("tag".to_string(alloc)?),
-        Err(KeyFault::Memory) => Err(RowFault::Memory),
+        Ok(text) => to.digits(text.as_slice()),
+        Err(KeyFault::NoKey) => to.word("no-key"),
+        Err(KeyFault::Tag) => to.word("tag"),
+        Err(KeyFault::Memory) => to.lacks_memory(),
     }
 }
 
-/// What has no answer.
-fn told(
-    alloc: Global,
-    store: &mut KeyStore,
-    name: &str,
-    alias: &[u8],
-    key: &[u8],
-) -> Result<(), RowFault> {
-    match name {
-        "put" => put(store, long_of(alias)?, &array_of(key)?),
-        "drop" => {
-            store.drop_key(long_of(alias)?);
-            Ok(())
-        }
-        "copy" => {
-            *store = KeyStore::of(KeyTable::of(store.keys().copy(alloc)?));
-            Ok(())
-        }
-        _ => Err(RowFault::Form),
-    }
-}
-
-fn put(store: &mut KeyStore, alias: u64, key: &[u8; 32]) -> Result<(), RowFault> {
+fn put(store: &mut KeyStore, alias: u64, key: &[u8; 32]) -> Result<(), Memory> {
     store.reserve(1)?;
     store.put(alias, key);
     Ok(())
 }
 
+fn copy(alloc: Global, store: &mut KeyStore) -> Result<(), Memory> {
+    *store = KeyStore::of(KeyTable::of(store.keys().copy(alloc)?));
+    Ok(())
+}
+
 /// A cell with this key or none.
-pub fn cell(alloc: Global, args: &[Vec<u8>]) -> Result<String, RowFault> {
+pub fn cell(to: &mut Answer, args: &[Vec<u8>]) {
     match args {
         [key, asks @ ..] => {
-            let mut cell = cell_of(key)?;
-            let mut answers = String::new(alloc);
+            let mut cell = cell_of(key);
             for ask in asks.chunks(3) {
-                put_word(&mut answers, ask_cell(alloc, &mut cell, ask)?.as_str())?;
+                ask_cell(to, &mut cell, ask);
             }
-            Ok(answers)
         }
-        _ => Err(RowFault::Form),
+        _ => to.is_no_row(),
     }
 }
 
-fn cell_of(key: &[u8]) -> Result<ResumeCell, RowFault> {
+fn cell_of(key: &[u8]) -> ResumeCell {
     match key {
-        [] => Ok(ResumeCell::new()),
-        key => Ok(ResumeCell::of(Some(array_of(key)?))),
+        [] => ResumeCell::new(),
+        key => ResumeCell::of(Some(array_of(key))),
     }
 }
 
-fn ask_cell(alloc: Global, cell: &mut ResumeCell, ask: &[Vec<u8>]) -> Result<String, RowFault> {
+fn ask_cell(to: &mut Answer, cell: &mut ResumeCell, ask: &[Vec<u8>]) {
     match ask {
-        [name, key, _] => match word_of(name)? {
-            "get" => key_text(alloc, cell.get()),
-            "take" => key_text(alloc, cell.take()),
-            "store" => {
-                cell.store(&array_of(key)?);
-                Ok(String::new(alloc))
-            }
-            _ => Err(RowFault::Form),
+        [name, key, _] => match word_of(name) {
+            "get" => seen(to, cell.get()),
+            "take" => seen(to, cell.take()),
+            "store" => cell.store(&array_of(key)),
+            _ => to.is_no_row(),
         },
-        _ => Err(RowFault::Form),
+        _ => to.is_no_row(),
     }
 }
 
-fn key_text(alloc: Global, key: Option<[u8; 32]>) -> Result<String, RowFault> {
+fn seen(to: &mut Answer, key: Option<[u8; 32]>) {
     match key {
-        Some(key) => digits_of(alloc, &key),
-        None => Ok("-".to_string(alloc)?),
+        Some(key) => to.digits(&key),
+        None => to.word("-"),
     }
 }

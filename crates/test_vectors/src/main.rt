@@ -11,10 +11,10 @@
 //! a name and two arguments. The answer has those of the asks that have one.
 #![tactic(auto)]
 
+mod answer;
 mod blobs;
 mod chain;
 mod ciphers;
-mod fault;
 mod handles;
 mod hashes;
 mod keys;
@@ -25,116 +25,123 @@ mod tables;
 mod tapes;
 mod words;
 
-use fault::RowFault;
-use std::alloc::{AllocError, Global};
+use answer::{Answer, RowFault};
+use std::alloc::Global;
 use std::io;
+use std::str::SplitWhitespace;
 use words::bytes_of;
 
 fn main(rt: HostRuntime) -> io::Result<()> {
     for line in rt.lines(rt.alloc()) {
         let line = line?;
-        let text = answered(rt.alloc(), line.as_str())?;
+        let mut to = Answer::new(rt.alloc());
+        answer_line(rt.alloc(), &mut to, line.as_str());
+        let text = to.line()?;
         println!(rt; "{text}")?;
     }
     Ok(())
 }
 
-/// A heading as it is, else the answer to a row.
-fn answered(alloc: Global, line: &str) -> Result<String, AllocError> {
+/// A heading as it is, else what the function that the first word names gives for the others.
+fn answer_line(alloc: Global, to: &mut Answer, line: &str) {
     if line.starts_with('#') {
-        return line.to_string(alloc);
+        return to.word(line);
     }
-    match answer_to(alloc, line) {
-        Ok(text) => Ok(text),
-        Err(RowFault::Memory) => Err(AllocError),
-        Err(RowFault::Form) => "no row".to_string(alloc),
+    let mut words = line.split_whitespace();
+    let name = words.next().unwrap_or("");
+    match args_of(alloc, words) {
+        Ok(args) => answer_to(alloc, to, name, args.as_slice()),
+        Err(fault) => to.fails(fault),
     }
 }
 
-/// What the function that the first word names gives for the others.
-fn answer_to(alloc: Global, line: &str) -> Result<String, RowFault> {
-    let mut words = line.split_whitespace();
-    let name = words.next().unwrap_or("");
+fn args_of(alloc: Global, words: SplitWhitespace<'_>) -> Result<Vec<Vec<u8>>, RowFault> {
     let mut args = Vec::new(alloc);
     for word in words {
-        let arg = bytes_of(alloc, word)?;
-        args.push(arg).map_err(|_| RowFault::Memory)?;
+        put_arg(&mut args, bytes_of(alloc, word))?;
     }
-    answer(alloc, name, args.as_slice())
+    Ok(args)
+}
+
+fn put_arg(args: &mut Vec<Vec<u8>>, arg: Result<Vec<u8>, RowFault>) -> Result<(), RowFault> {
+    match args.push(arg?) {
+        Ok(()) => Ok(()),
+        Err(_) => Err(RowFault::Memory),
+    }
 }
 
 /// What the function with this name gives for these arguments.
-fn answer(alloc: Global, name: &str, args: &[Vec<u8>]) -> Result<String, RowFault> {
+fn answer_to(alloc: Global, to: &mut Answer, name: &str, args: &[Vec<u8>]) {
     match name {
-        "sha256" => hashes::sha256(alloc, args),
-        "hmac256" => hashes::hmac(alloc, args),
-        "hmac256-joined" => hashes::joined_hmac(alloc, args),
-        "sp800" => hashes::derived(alloc, args),
-        "phash" => hashes::personalised(alloc, args),
-        "phash2" => hashes::personalised_pair(alloc, args),
-        "pbkdf2-once" => hashes::pbkdf2(alloc, args),
-        "stretch" => hashes::stretched(alloc, args),
-        "xor" => hashes::xored(alloc, args),
-        "aes256" => ciphers::encrypted(alloc, args),
-        "times-h" => ciphers::multiplied(alloc, args),
-        "seal" => ciphers::sealed(alloc, args),
-        "seal-sevens" => ciphers::sealed_sevens(alloc, args),
-        "open" => ciphers::opened(alloc, args),
-        "seal-under" => blobs::sealed(alloc, args),
-        "open-under" => blobs::opened(alloc, args),
-        "spblob" => blobs::parsed(alloc, args),
-        "create" => secrets::created(alloc, args),
-        "subkeys" => secrets::subkeys(alloc, args),
-        "e0" => secrets::sealed_half(alloc, args),
-        "open-e0" => secrets::opened_half(alloc, args),
-        _ => answer_of_devices(alloc, name, args),
+        "sha256" => hashes::sha256(to, args),
+        "hmac256" => hashes::hmac(to, args),
+        "hmac256-joined" => hashes::joined_hmac(to, args),
+        "sp800" => hashes::derived(to, args),
+        "phash" => hashes::personalised(to, args),
+        "phash2" => hashes::personalised_pair(to, args),
+        "pbkdf2-once" => hashes::pbkdf2(alloc, to, args),
+        "stretch" => hashes::stretched(alloc, to, args),
+        "xor" => hashes::xored(to, args),
+        "aes256" => ciphers::encrypted(to, args),
+        "times-h" => ciphers::multiplied(to, args),
+        "seal" => ciphers::sealed(alloc, to, args),
+        "seal-sevens" => ciphers::sealed_sevens(alloc, to, args),
+        "open" => ciphers::opened(alloc, to, args),
+        "seal-under" => blobs::sealed(alloc, to, args),
+        "open-under" => blobs::opened(alloc, to, args),
+        "spblob" => blobs::parsed(alloc, to, args),
+        "create" => secrets::created(alloc, to, args),
+        "subkeys" => secrets::subkeys(alloc, to, args),
+        "e0" => secrets::sealed_half(alloc, to, args),
+        "open-e0" => secrets::opened_half(alloc, to, args),
+        _ => answer_of_devices(alloc, to, name, args),
     }
 }
 
 /// The same, of devices and of what is taken of the outside.
-fn answer_of_devices(alloc: Global, name: &str, args: &[Vec<u8>]) -> Result<String, RowFault> {
+fn answer_of_devices(alloc: Global, to: &mut Answer, name: &str, args: &[Vec<u8>]) {
     match name {
-        "timeout" => slots::rest(alloc, args),
-        "slot" => slots::slot(alloc, args),
-        "weaver" => slots::weaver(alloc, args),
-        "sign" => handles::signed(alloc, args),
-        "gatekeeper" => handles::gatekeeper(alloc, args),
-        "key-store" => keys::store(alloc, args),
-        "resume-cell" => keys::cell(alloc, args),
-        "moments" => tapes::moments(alloc, args),
-        "noise" => tapes::noise(alloc, args),
-        _ => answer_of_tables(alloc, name, args),
+        "timeout" => slots::rest(to, args),
+        "slot" => slots::slot(to, args),
+        "weaver" => slots::weaver(alloc, to, args),
+        "sign" => handles::signed(alloc, to, args),
+        "gatekeeper" => handles::gatekeeper(alloc, to, args),
+        "key-store" => keys::store(alloc, to, args),
+        "resume-cell" => keys::cell(to, args),
+        "moments" => tapes::moments(alloc, to, args),
+        "noise" => tapes::noise(alloc, to, args),
+        _ => answer_of_tables(alloc, to, name, args),
     }
 }
 
 /// The same, of what the board keeps.
-fn answer_of_tables(alloc: Global, name: &str, args: &[Vec<u8>]) -> Result<String, RowFault> {
+fn answer_of_tables(alloc: Global, to: &mut Answer, name: &str, args: &[Vec<u8>]) {
     match name {
-        "plan" => tables::plan(alloc, args),
-        "world" => tables::world(alloc, args),
-        "id-table" => tables::ids(alloc, args),
-        "pushed-key" => tables::pushed_key(alloc, args),
-        "pushed-record" => tables::pushed_record(alloc, args),
-        "pushed-file" => tables::pushed_file(alloc, args),
-        "touched" => tables::touched(alloc, args),
-        _ => answer_of_seals(alloc, name, args),
+        "plan" => tables::plan(alloc, to, args),
+        "world" => tables::world(alloc, to, args),
+        "id-table" => tables::ids(alloc, to, args),
+        "pushed-key" => tables::pushed_key(alloc, to, args),
+        "pushed-record" => tables::pushed_record(alloc, to, args),
+        "pushed-file" => tables::pushed_file(alloc, to, args),
+        "touched" => tables::touched(alloc, to, args),
+        _ => answer_of_seals(alloc, to, name, args),
     }
 }
 
 /// The same, of protectors.
-fn answer_of_seals(alloc: Global, name: &str, args: &[Vec<u8>]) -> Result<String, RowFault> {
+fn answer_of_seals(alloc: Global, to: &mut Answer, name: &str, args: &[Vec<u8>]) {
     match name {
-        "weaver-key" => chain::key(alloc, args),
-        "default-weaver-key" => chain::default_key(alloc, args),
-        "gatekeeper-password" => chain::password(alloc, args),
-        "value-share" => chain::value(alloc, args),
-        "discardable-share" => chain::discardable(alloc, args),
-        "default-layered" => chain::sealed(alloc, args),
-        "credential-plan" => chain::credential_weight(alloc, args),
-        "token-plan" => chain::token_weight(alloc, args),
-        "seals" => protectors::decided(alloc, args),
-        "seals-token" => protectors::token_decided(alloc, args),
-        "held-slot" => protectors::slot(alloc, args),
-        _ => Err(RowFault::Form),
+        "weaver-key" => chain::key(alloc, to, args),
+        "default-weaver-key" => chain::default_key(to),
+        "gatekeeper-password" => chain::password(to, args),
+        "value-share" => chain::value(to, args),
+        "discardable-share" => chain::discardable(to, args),
+        "default-layered" => chain::sealed(alloc, to, args),
+        "credential-plan" => chain::credential_weight(alloc, to, args),
+        "token-plan" => chain::token_weight(alloc, to, args),
+        "seals" => protectors::decided(alloc, to, args),
+        "seals-token" => protectors::token_decided(alloc, to, args),
+        "held-slot" => protectors::slot(alloc, to, args),
+        _ => to.is_no_row(),
     }
 }

@@ -4,184 +4,266 @@
 //! slot, as its key, its value and four bytes of failures; a counter, as four bytes of failures and
 //! eight of a moment; the Gatekeeper's key, and the key of the id. None is `-`.
 
+use crate::answer::{Answer, RowFault};
 use crate::chain::credential_of;
-use crate::fault::RowFault;
-use crate::words::{array_of, byte_of, digits_of, half_of, long_of, word_of};
+use crate::secrets::secret_of;
+use crate::slots::slot_of;
+use crate::tables::name_of;
+use crate::words::{array_of, byte_of, half_of, number_of, word_of};
 use ls_board::{Counter, World};
-use ls_bytes::{Bytes, Name, NameFault};
-use ls_credential::Kind;
-use ls_secret::{Secret, SecretFault};
+use ls_bytes::{Bytes, Memory, Name};
+use ls_credential::{Credential, Kind};
+use ls_secret::Secret;
 use ls_unsealing::{HeldParts, PartFiles, Protector, Purpose, seals, seals_token, shows_metrics};
 use ls_weaver::Slot;
 use std::alloc::Global;
 
 /// Whether the secret of this version and text is sealed for a credential, by the protector with the
 /// id 2, and its metrics are shown.
-pub fn decided(alloc: Global, args: &[Vec<u8>]) -> Result<String, RowFault> {
+pub fn decided(alloc: Global, to: &mut Answer, args: &[Vec<u8>]) {
     match args {
         [kind, text, version, sp, parts @ ..] => {
-            let held = held_of(alloc, parts)?;
-            let secret = secret_of(alloc, byte_of(version)?, sp)?;
-            decision(alloc, &held, kind_of(word_of(kind)?)?, text, &secret)
+            match secret_of(alloc, byte_of(version), sp) {
+                Ok(secret) => for_credential(alloc, to, kind, text, &secret, parts),
+                Err(fault) => to.fails(fault),
+            }
         }
-        _ => Err(RowFault::Form),
+        _ => to.is_no_row(),
     }
 }
 
-fn decision(
+fn for_credential(
     alloc: Global,
-    held: &HeldParts,
-    kind: Kind,
+    to: &mut Answer,
+    kind: &[u8],
     text: &[u8],
     secret: &Secret,
-) -> Result<String, RowFault> {
-    let credential = credential_of(alloc, kind, text)?;
-    let sealed = yes_or_no(seals(alloc, 2, held, &credential, secret)?);
-    let shown = yes_or_no(shows_metrics(alloc, held, &credential, secret)?);
-    Ok(format!(in alloc; "{sealed} {shown}")?)
+    parts: &[Vec<u8>],
+) {
+    match credential_in(alloc, kind, text) {
+        Ok(credential) => with_parts(alloc, to, &credential, secret, parts),
+        Err(fault) => to.fails(fault),
+    }
+}
+
+fn with_parts(
+    alloc: Global,
+    to: &mut Answer,
+    credential: &Credential,
+    secret: &Secret,
+    parts: &[Vec<u8>],
+) {
+    match held_of(alloc, parts) {
+        Ok(held) => {
+            decision(to, seals(alloc, 2, &held, credential, secret));
+            decision(to, shows_metrics(alloc, &held, credential, secret));
+        }
+        Err(fault) => to.fails(fault),
+    }
+}
+
+fn decision(to: &mut Answer, decided: Result<bool, Memory>) {
+    match decided {
+        Ok(fact) => to.fact(fact),
+        Err(_) => to.lacks_memory(),
+    }
 }
 
 /// Whether the first half of the secret of this version and text is sealed for a token, and the
 /// second completes it.
-pub fn token_decided(alloc: Global, args: &[Vec<u8>]) -> Result<String, RowFault> {
+pub fn token_decided(alloc: Global, to: &mut Answer, args: &[Vec<u8>]) {
     match args {
         [token, version, sp, p0, p1, parts @ ..] => {
-            let held = held_of(alloc, parts)?;
-            let secret = secret_of(alloc, byte_of(version)?, sp)?;
-            let p1 = file_of(alloc, p1)?;
-            let sealed = seals_token(alloc, &held, &p1, token, &secret, p0)?;
-            Ok(yes_or_no(sealed).to_string(alloc)?)
+            match secret_of(alloc, byte_of(version), sp) {
+                Ok(secret) => match file_of(alloc, p1) {
+                    Ok(p1) => for_token(alloc, to, token, &secret, p0, &p1, parts),
+                    Err(_) => to.lacks_memory(),
+                },
+                Err(fault) => to.fails(fault),
+            }
         }
-        _ => Err(RowFault::Form),
+        _ => to.is_no_row(),
     }
 }
 
-fn yes_or_no(fact: bool) -> &'static str {
-    if fact { "yes" } else { "no" }
-}
-
-fn kind_of(name: &str) -> Result<Kind, RowFault> {
-    match name {
-        "pin" => Ok(Kind::Pin),
-        "password" => Ok(Kind::Password),
-        _ => Err(RowFault::Form),
+fn for_token(
+    alloc: Global,
+    to: &mut Answer,
+    token: &[u8],
+    secret: &Secret,
+    p0: &[u8],
+    p1: &Option<Bytes>,
+    parts: &[Vec<u8>],
+) {
+    match held_of(alloc, parts) {
+        Ok(held) => decision(to, seals_token(alloc, &held, p1, token, secret, p0)),
+        Err(fault) => to.fails(fault),
     }
 }
 
-fn secret_of(alloc: Global, version: u8, sp: &[u8]) -> Result<Secret, RowFault> {
-    match Secret::of(alloc, version, sp) {
-        Ok(secret) => Ok(secret),
-        Err(SecretFault::Memory) => Err(RowFault::Memory),
-        Err(_) => Err(RowFault::Form),
+/// The credential of the kind with this name and of this text.
+fn credential_in(alloc: Global, kind: &[u8], text: &[u8]) -> Result<Credential, RowFault> {
+    match word_of(kind) {
+        "pin" => credential_of(alloc, Kind::Pin, text),
+        "password" => credential_of(alloc, Kind::Password, text),
+        _ => Err(RowFault::Form),
     }
 }
 
 fn held_of(alloc: Global, parts: &[Vec<u8>]) -> Result<HeldParts, RowFault> {
     match parts {
-        [files @ .., slot, counter, device, key] => {
-            let slot = slot_of(slot)?;
-            let counter = counter_of(counter)?;
-            let device = array_of(device)?;
-            let key = array_of(key)?;
-            Ok(HeldParts {
-                weaver: slot.is_some(),
-                files: files_of(alloc, files)?,
-                slot,
-                counter,
-                device,
-                key: Some(key),
-            })
+        [files @ .., slot, counter, device, key]
+            if is_none_or(slot, 36)
+                && is_none_or(counter, 12)
+                && device.len() == 32
+                && key.len() == 32 => match files_of(alloc, files) {
+            Ok(files) => Ok(held_with(files, slot, counter, array_of(device), array_of(key))),
+            Err(fault) => Err(fault),
+        },
+        _ => Err(RowFault::Form),
+    }
+}
+
+/// Whether these are so many bytes, or none.
+fn is_none_or(bytes: &[u8], len: usize) -> bool {
+    bytes.is_empty() || bytes.len() == len
+}
+
+fn held_with(
+    files: PartFiles,
+    slot: &[u8],
+    counter: &[u8],
+    device: [u8; 32],
+    key: [u8; 32],
+) -> HeldParts {
+    let slot = held_slot_of(slot);
+    HeldParts {
+        weaver: slot.is_some(),
+        files,
+        slot,
+        counter: counter_of(counter),
+        device,
+        key: Some(key),
+    }
+}
+
+fn files_of(alloc: Global, parts: &[Vec<u8>]) -> Result<PartFiles, RowFault> {
+    let mut files = no_files();
+    match put_files(alloc, &mut files, parts) {
+        Ok(()) => Ok(files),
+        Err(fault) => Err(fault),
+    }
+}
+
+fn put_files(alloc: Global, to: &mut PartFiles, parts: &[Vec<u8>]) -> Result<(), RowFault> {
+    match parts {
+        [spblob, pwd, secdis, weaver, metrics] => {
+            put_file(alloc, &mut to.spblob, spblob)?;
+            put_file(alloc, &mut to.pwd, pwd)?;
+            put_file(alloc, &mut to.secdis, secdis)?;
+            put_file(alloc, &mut to.weaver, weaver)?;
+            put_file(alloc, &mut to.metrics, metrics)
         }
         _ => Err(RowFault::Form),
     }
 }
 
-fn files_of(alloc: Global, files: &[Vec<u8>]) -> Result<PartFiles, RowFault> {
-    match files {
-        [spblob, pwd, secdis, weaver, metrics] => Ok(PartFiles {
-            spblob: file_of(alloc, spblob)?,
-            pwd: file_of(alloc, pwd)?,
-            secdis: file_of(alloc, secdis)?,
-            weaver: file_of(alloc, weaver)?,
-            metrics: file_of(alloc, metrics)?,
-        }),
-        _ => Err(RowFault::Form),
+fn no_files() -> PartFiles {
+    PartFiles {
+        spblob: None,
+        pwd: None,
+        secdis: None,
+        weaver: None,
+        metrics: None,
     }
 }
 
-fn file_of(alloc: Global, bytes: &[u8]) -> Result<Option<Bytes>, RowFault> {
+fn put_file(alloc: Global, to: &mut Option<Bytes>, bytes: &[u8]) -> Result<(), RowFault> {
+    match file_of(alloc, bytes) {
+        Ok(file) => {
+            *to = file;
+            Ok(())
+        }
+        Err(_) => Err(RowFault::Memory),
+    }
+}
+
+fn file_of(alloc: Global, bytes: &[u8]) -> Result<Option<Bytes>, Memory> {
     if bytes.is_empty() {
         return Ok(None);
     }
     Ok(Some(Bytes::of(alloc, bytes)?))
 }
 
-fn slot_of(bytes: &[u8]) -> Result<Option<Slot>, RowFault> {
-    if bytes.is_empty() {
-        return Ok(None);
+/// The slot of these bytes, with no rest.
+fn held_slot_of(bytes: &[u8]) -> Option<Slot> {
+    if bytes.len() != 36 {
+        return None;
     }
-    let bytes: [u8; 36] = array_of(bytes)?;
-    Ok(Some(Slot {
-        key: array_of(&bytes[..16])?,
-        value: array_of(&bytes[16..32])?,
-        fails: half_of(&bytes[32..])?,
-        until: 0,
-    }))
+    Some(slot_of(&bytes[..16], &bytes[16..32], half_of(&bytes[32..])))
 }
 
-fn counter_of(bytes: &[u8]) -> Result<Option<Counter>, RowFault> {
-    if bytes.is_empty() {
-        return Ok(None);
+fn counter_of(bytes: &[u8]) -> Option<Counter> {
+    if bytes.len() != 12 {
+        return None;
     }
-    let bytes: [u8; 12] = array_of(bytes)?;
-    Ok(Some(Counter {
-        fails: half_of(&bytes[..4])?,
-        until: long_of(&bytes[4..])?,
-    }))
+    Some(Counter {
+        fails: half_of(&bytes[..4]),
+        until: number_of(&bytes[4..]),
+    })
 }
 
 /// What is held as the slot of a token's protector: how many slots the world has, the name and the
 /// content of its one file, and the user and id of the protector.
-pub fn slot(alloc: Global, args: &[Vec<u8>]) -> Result<String, RowFault> {
+pub fn slot(alloc: Global, to: &mut Answer, args: &[Vec<u8>]) {
     match args {
         [slots, name, content, user, id] => {
-            let mut world = World::blank(alloc, u32::from(byte_of(slots)?))?;
-            world.put_file(&name_of(alloc, name)?, content)?;
             let token = Protector {
-                user: half_of(user)?,
-                id: long_of(id)?,
+                user: half_of(user),
+                id: number_of(id),
                 purpose: Purpose::Token,
             };
-            held_slot(alloc, &world, &token)
+            match world_of(alloc, byte_of(slots), name, content) {
+                Ok(world) => held_slot(alloc, to, &world, &token),
+                Err(fault) => to.fails(fault),
+            }
         }
-        _ => Err(RowFault::Form),
+        _ => to.is_no_row(),
     }
 }
 
-fn held_slot(alloc: Global, world: &World, token: &Protector) -> Result<String, RowFault> {
-    if token.id == 0 {
-        return Err(RowFault::Form);
+/// A world with so many slots and one file.
+fn world_of(alloc: Global, slots: u8, name: &[u8], content: &[u8]) -> Result<World, RowFault> {
+    let name = name_of(alloc, name)?;
+    match world_with(alloc, slots, &name, content) {
+        Ok(world) => Ok(world),
+        Err(_) => Err(RowFault::Memory),
     }
-    let parts = HeldParts::of(alloc, world, token)?;
-    match &parts.slot {
-        Some(slot) => slot_text(alloc, slot),
-        None => Ok("-".to_string(alloc)?),
+}
+
+fn world_with(alloc: Global, slots: u8, name: &Name, content: &[u8]) -> Result<World, Memory> {
+    let mut world = World::blank(alloc, u32::from(slots))?;
+    world.put_file(name, content)?;
+    Ok(world)
+}
+
+fn held_slot(alloc: Global, to: &mut Answer, world: &World, token: &Protector) {
+    if token.id == 0 {
+        return to.is_no_row();
+    }
+    match HeldParts::of(alloc, world, token) {
+        Ok(parts) => match &parts.slot {
+            Some(slot) => said_of(to, slot),
+            None => to.word("-"),
+        },
+        Err(_) => to.lacks_memory(),
     }
 }
 
 /// Its key, its value, its failures and until when it rests.
-fn slot_text(alloc: Global, slot: &Slot) -> Result<String, RowFault> {
-    let key = digits_of(alloc, &slot.key)?;
-    let value = digits_of(alloc, &slot.value)?;
-    let (fails, until) = (slot.fails, slot.until);
-    Ok(format!(in alloc; "{key} {value} {fails} {until}")?)
-}
-
-/// The name that these bytes are.
-pub fn name_of(alloc: Global, bytes: &[u8]) -> Result<Name, RowFault> {
-    match Name::of(alloc, bytes) {
-        Ok(name) => Ok(name),
-        Err(NameFault::Memory) => Err(RowFault::Memory),
-        Err(_) => Err(RowFault::Form),
-    }
+fn said_of(to: &mut Answer, slot: &Slot) {
+    to.digits(&slot.key);
+    to.digits(&slot.value);
+    to.number(u64::from(slot.fails));
+    to.number(slot.until);
 }

@@ -1,116 +1,108 @@
 //! The throttle, and slots.
 
-use crate::fault::RowFault;
-use crate::words::{array_of, digits_of, half_of, long_of, put_word, word_of};
+use crate::answer::Answer;
+use crate::words::{array_of, half_of, number_of, word_of};
 use ls_weaver::{Slot, SlotRead, Weaver, timeout};
 use std::alloc::Global;
 
 /// The rest after so many failures, in milliseconds.
-pub fn rest(alloc: Global, args: &[Vec<u8>]) -> Result<String, RowFault> {
+pub fn rest(to: &mut Answer, args: &[Vec<u8>]) {
     match args {
-        [fails] => {
-            let rest = timeout(half_of(fails)?);
-            Ok(format!(in alloc; "{rest}")?)
-        }
-        _ => Err(RowFault::Form),
+        [fails] => to.number(timeout(half_of(fails))),
+        _ => to.is_no_row(),
     }
 }
 
 /// A slot with this key, value and failures, which doesn't rest.
-pub fn slot(alloc: Global, args: &[Vec<u8>]) -> Result<String, RowFault> {
+pub fn slot(to: &mut Answer, args: &[Vec<u8>]) {
     match args {
         [key, value, fails, asks @ ..] => {
-            let mut slot = Slot {
-                key: array_of(key)?,
-                value: array_of(value)?,
-                fails: half_of(fails)?,
-                until: 0,
-            };
-            let mut answers = String::new(alloc);
+            let mut slot = slot_of(key, value, half_of(fails));
             for ask in asks.chunks(3) {
-                put_word(&mut answers, ask_slot(alloc, &mut slot, ask)?.as_str())?;
+                ask_slot(to, &mut slot, ask);
             }
-            Ok(answers)
         }
-        _ => Err(RowFault::Form),
+        _ => to.is_no_row(),
     }
 }
 
-fn ask_slot(alloc: Global, slot: &mut Slot, ask: &[Vec<u8>]) -> Result<String, RowFault> {
+/// A slot that doesn't rest.
+pub fn slot_of(key: &[u8], value: &[u8], fails: u32) -> Slot {
+    Slot {
+        key: array_of(key),
+        value: array_of(value),
+        fails,
+        until: 0,
+    }
+}
+
+fn ask_slot(to: &mut Answer, slot: &mut Slot, ask: &[Vec<u8>]) {
     match ask {
-        [name, key, moment] => match word_of(name)? {
-            "read" => read_text(alloc, slot.read(&array_of(key)?, long_of(moment)?)),
-            "until" => {
-                let until = slot.until;
-                Ok(format!(in alloc; "{until}")?)
-            }
-            _ => Err(RowFault::Form),
+        [name, key, moment] => match word_of(name) {
+            "read" if key.len() == 16 => seen(to, slot.read(&array_of(key), number_of(moment))),
+            "until" => to.number(slot.until),
+            _ => to.is_no_row(),
         },
-        _ => Err(RowFault::Form),
+        _ => to.is_no_row(),
     }
 }
 
-fn read_text(alloc: Global, read: SlotRead) -> Result<String, RowFault> {
+fn seen(to: &mut Answer, read: SlotRead) {
     match read {
-        SlotRead::Value(value) => digits_of(alloc, &value),
-        SlotRead::Wrong(rest) => Ok(format!(in alloc; "wrong-{rest}")?),
-        SlotRead::Throttled(rest) => Ok(format!(in alloc; "throttled-{rest}")?),
+        SlotRead::Value(value) => to.digits(&value),
+        SlotRead::Wrong(rest) => to.joined("wrong", rest),
+        SlotRead::Throttled(rest) => to.joined("throttled", rest),
     }
 }
 
 /// So many slots, at most 256, each blank at first.
-pub fn weaver(alloc: Global, args: &[Vec<u8>]) -> Result<String, RowFault> {
+pub fn weaver(alloc: Global, to: &mut Answer, args: &[Vec<u8>]) {
     match args {
-        [len, asks @ ..] => {
-            let mut weaver = Weaver::new(alloc, half_of(len)?)?;
-            let mut answers = String::new(alloc);
-            for ask in asks.chunks(3) {
-                put_word(&mut answers, ask_weaver(alloc, &mut weaver, ask)?.as_str())?;
+        [len, asks @ ..] => match Weaver::new(alloc, half_of(len)) {
+            Ok(mut weaver) => {
+                for ask in asks.chunks(3) {
+                    ask_weaver(alloc, to, &mut weaver, ask);
+                }
             }
-            Ok(answers)
-        }
-        _ => Err(RowFault::Form),
+            Err(_) => to.lacks_memory(),
+        },
+        _ => to.is_no_row(),
     }
 }
 
 /// `write` has a slot, and a key with the value behind it; `read` has a slot and a key, at moment 0.
-fn ask_weaver(alloc: Global, weaver: &mut Weaver, ask: &[Vec<u8>]) -> Result<String, RowFault> {
+fn ask_weaver(alloc: Global, to: &mut Answer, weaver: &mut Weaver, ask: &[Vec<u8>]) {
     match ask {
-        [name, slot, bytes] => match word_of(name)? {
-            "write" => written(alloc, weaver, half_of(slot)?, &array_of(bytes)?),
-            "read" => read(alloc, weaver, half_of(slot)?, &array_of(bytes)?),
-            "push" => {
-                weaver.push(Slot::blank())?;
-                Ok(String::new(alloc))
-            }
-            "copied-len" => {
-                let len = weaver.copy(alloc)?.len();
-                Ok(format!(in alloc; "{len}")?)
-            }
-            _ => Err(RowFault::Form),
+        [name, slot, bytes] => match word_of(name) {
+            "write" => write(to, weaver, half_of(slot), bytes),
+            "read" => read(to, weaver, half_of(slot), bytes),
+            "push" => to.done(weaver.push(Slot::blank())),
+            "copied-len" => copied_len(alloc, to, weaver),
+            _ => to.is_no_row(),
         },
-        _ => Err(RowFault::Form),
+        _ => to.is_no_row(),
     }
 }
 
-fn written(
-    alloc: Global,
-    weaver: &mut Weaver,
-    slot: u32,
-    bytes: &[u8; 32],
-) -> Result<String, RowFault> {
-    if slot >= weaver.len() {
-        return Err(RowFault::Form);
+fn copied_len(alloc: Global, to: &mut Answer, weaver: &Weaver) {
+    match weaver.copy(alloc) {
+        Ok(copy) => to.number(u64::from(copy.len())),
+        Err(_) => to.lacks_memory(),
     }
-    let key = array_of(&bytes[..16])?;
-    let value = array_of(&bytes[16..])?;
-    weaver.write(slot, &key, &value);
-    Ok(String::new(alloc))
 }
 
-fn read(alloc: Global, weaver: &mut Weaver, slot: u32, key: &[u8; 16]) -> Result<String, RowFault> {
-    if slot >= weaver.len() {
-        return Err(RowFault::Form);
+fn write(to: &mut Answer, weaver: &mut Weaver, slot: u32, bytes: &[u8]) {
+    if slot < weaver.len() && bytes.len() == 32 {
+        weaver.write(slot, &array_of(&bytes[..16]), &array_of(&bytes[16..]));
+    } else {
+        to.is_no_row();
     }
-    read_text(alloc, weaver.read(slot, key, 0))
+}
+
+fn read(to: &mut Answer, weaver: &mut Weaver, slot: u32, key: &[u8]) {
+    if slot < weaver.len() && key.len() == 16 {
+        seen(to, weaver.read(slot, &array_of(key), 0));
+    } else {
+        to.is_no_row();
+    }
 }

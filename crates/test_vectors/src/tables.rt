@@ -1,302 +1,314 @@
 //! Plans, worlds and the tables of the board.
 
-use crate::fault::RowFault;
-use crate::protectors::name_of;
-use crate::words::{array_of, byte_of, digits_of, half_of, long_of, put_word, word_of};
+use crate::answer::{Answer, RowFault};
+use crate::words::{array_of, byte_of, half_of, number_of, word_of};
 use ls_board::{
-    Action, Counter, FileRow, FileTable, GkRow, GkTable, IdTable, KeyRow, KeyTable, Plan, Touch,
-    TouchRow, TouchTable, World,
+    Action, FileRow, FileTable, GkRow, GkTable, IdTable, KeyRow, KeyTable, Plan, Touch, TouchRow,
+    TouchTable, World,
 };
-use ls_bytes::Bytes;
+use ls_bytes::{Bytes, Memory, Name, NameFault};
 use std::alloc::Global;
 
-/// A plan without actions.
-pub fn plan(alloc: Global, args: &[Vec<u8>]) -> Result<String, RowFault> {
-    let mut plan = Plan::new(alloc);
-    let mut answers = String::new(alloc);
-    for ask in args.chunks(3) {
-        put_word(&mut answers, ask_plan(alloc, &mut plan, ask)?.as_str())?;
+/// The name that these bytes are.
+pub fn name_of(alloc: Global, bytes: &[u8]) -> Result<Name, RowFault> {
+    match Name::of(alloc, bytes) {
+        Ok(name) => Ok(name),
+        Err(NameFault::Memory) => Err(RowFault::Memory),
+        Err(_) => Err(RowFault::Form),
     }
-    Ok(answers)
+}
+
+// ---- plans
+
+/// A plan without actions.
+pub fn plan(alloc: Global, to: &mut Answer, args: &[Vec<u8>]) {
+    let mut plan = Plan::new(alloc);
+    for ask in args.chunks(3) {
+        ask_plan(alloc, to, &mut plan, ask);
+    }
 }
 
 /// `make` has a name and a size, `say` a text; `append` puts a plan behind it that says a text.
-fn ask_plan(alloc: Global, plan: &mut Plan, ask: &[Vec<u8>]) -> Result<String, RowFault> {
+fn ask_plan(alloc: Global, to: &mut Answer, plan: &mut Plan, ask: &[Vec<u8>]) {
     match ask {
-        [name, one, other] => match word_of(name)? {
-            "weight" => weight_text(alloc, plan),
-            name => {
-                plan_more(alloc, plan, name, one, other)?;
-                Ok(String::new(alloc))
+        [name, one, other] => match word_of(name) {
+            "weight" => {
+                let (actions, bytes) = plan.weight();
+                to.pair(u64::from(actions), bytes);
             }
+            "make" => make(alloc, to, plan, one, half_of(other)),
+            "sync" => to.done(plan.push(Action::Sync)),
+            "say" => to.done(say(alloc, plan, one)),
+            "append" => to.done(append(alloc, plan, one)),
+            _ => to.is_no_row(),
         },
-        _ => Err(RowFault::Form),
+        _ => to.is_no_row(),
     }
 }
 
-/// How many actions, and how many bytes they hold.
-fn weight_text(alloc: Global, plan: &Plan) -> Result<String, RowFault> {
-    let (actions, bytes) = plan.weight();
-    Ok(format!(in alloc; "{actions}-{bytes}")?)
-}
-
-fn plan_more(
-    alloc: Global,
-    plan: &mut Plan,
-    name: &str,
-    one: &[u8],
-    other: &[u8],
-) -> Result<(), RowFault> {
-    match name {
-        "make" => {
-            let len = half_of(other)?;
-            let name = name_of(alloc, one)?;
-            Ok(plan.push(Action::Make { name, len })?)
-        }
-        "sync" => Ok(plan.push(Action::Sync)?),
-        "say" => put_saying(alloc, plan, one),
-        "append" => append_saying(alloc, plan, one),
-        _ => Err(RowFault::Form),
+fn make(alloc: Global, to: &mut Answer, plan: &mut Plan, name: &[u8], len: u32) {
+    match name_of(alloc, name) {
+        Ok(name) => to.done(plan.push(Action::Make { name, len })),
+        Err(fault) => to.fails(fault),
     }
 }
 
-fn put_saying(alloc: Global, plan: &mut Plan, text: &[u8]) -> Result<(), RowFault> {
+fn say(alloc: Global, plan: &mut Plan, text: &[u8]) -> Result<(), Memory> {
     let bytes = Bytes::of(alloc, text)?;
-    Ok(plan.push(Action::Say { bytes })?)
+    plan.push(Action::Say { bytes })
 }
 
-fn append_saying(alloc: Global, plan: &mut Plan, text: &[u8]) -> Result<(), RowFault> {
+fn append(alloc: Global, plan: &mut Plan, text: &[u8]) -> Result<(), Memory> {
     let mut other = Plan::new(alloc);
-    put_saying(alloc, &mut other, text)?;
-    Ok(plan.append(other)?)
+    say(alloc, &mut other, text)?;
+    plan.append(other)
 }
+
+// ---- worlds
 
 /// A blank world with so many slots.
-pub fn world(alloc: Global, args: &[Vec<u8>]) -> Result<String, RowFault> {
+pub fn world(alloc: Global, to: &mut Answer, args: &[Vec<u8>]) {
     match args {
-        [slots, asks @ ..] => {
-            let mut world = World::blank(alloc, u32::from(byte_of(slots)?))?;
-            let mut answers = String::new(alloc);
-            for ask in asks.chunks(3) {
-                put_word(&mut answers, ask_world(alloc, &mut world, ask)?.as_str())?;
-            }
-            Ok(answers)
-        }
-        _ => Err(RowFault::Form),
-    }
-}
-
-fn ask_world(alloc: Global, world: &mut World, ask: &[Vec<u8>]) -> Result<String, RowFault> {
-    match ask {
-        [name, file, bytes] => match word_of(name)? {
-            "content" => content_text(alloc, &world.files, file),
-            "counts" => {
-                let files = world.files.len();
-                let slots = world.slots.len();
-                Ok(format!(in alloc; "{files}-{slots}")?)
-            }
-            name => {
-                change_world(alloc, world, name, file, bytes)?;
-                Ok(String::new(alloc))
-            }
+        [slots, asks @ ..] => match World::blank(alloc, u32::from(byte_of(slots))) {
+            Ok(mut world) => ask_all(alloc, to, &mut world, asks),
+            Err(_) => to.lacks_memory(),
         },
-        _ => Err(RowFault::Form),
+        _ => to.is_no_row(),
     }
 }
 
-fn content_text(alloc: Global, files: &FileTable, name: &[u8]) -> Result<String, RowFault> {
-    match files.content(name) {
-        Some(bytes) => digits_of(alloc, bytes),
-        None => Ok("absent".to_string(alloc)?),
+fn ask_all(alloc: Global, to: &mut Answer, world: &mut World, asks: &[Vec<u8>]) {
+    for ask in asks.chunks(3) {
+        ask_world(alloc, to, world, ask);
     }
 }
 
 /// `put` has a name and what the file holds, `drop` a name; with `copy` it goes on as a copy.
-fn change_world(
-    alloc: Global,
-    world: &mut World,
-    name: &str,
-    file: &[u8],
-    bytes: &[u8],
-) -> Result<(), RowFault> {
-    match name {
-        "put" => Ok(world.put_file(&name_of(alloc, file)?, bytes)?),
-        "drop" => {
-            world.drop_file(&name_of(alloc, file)?);
-            Ok(())
-        }
-        "copy" => {
-            *world = world.copy(alloc)?;
-            Ok(())
-        }
-        _ => Err(RowFault::Form),
+fn ask_world(alloc: Global, to: &mut Answer, world: &mut World, ask: &[Vec<u8>]) {
+    match ask {
+        [name, file, bytes] => match word_of(name) {
+            "content" => content(to, &world.files, file),
+            "counts" => to.pair(u64::from(world.files.len()), u64::from(world.slots.len())),
+            "put" => put(alloc, to, world, file, bytes),
+            "drop" => drop_file(alloc, to, world, file),
+            "copy" => to.done(copy(alloc, world)),
+            _ => to.is_no_row(),
+        },
+        _ => to.is_no_row(),
     }
 }
+
+fn content(to: &mut Answer, files: &FileTable, name: &[u8]) {
+    match files.content(name) {
+        Some(bytes) => to.digits(bytes),
+        None => to.word("absent"),
+    }
+}
+
+fn put(alloc: Global, to: &mut Answer, world: &mut World, name: &[u8], bytes: &[u8]) {
+    match name_of(alloc, name) {
+        Ok(name) => to.done(world.put_file(&name, bytes)),
+        Err(fault) => to.fails(fault),
+    }
+}
+
+fn drop_file(alloc: Global, to: &mut Answer, world: &mut World, name: &[u8]) {
+    match name_of(alloc, name) {
+        Ok(name) => world.drop_file(&name),
+        Err(fault) => to.fails(fault),
+    }
+}
+
+fn copy(alloc: Global, world: &mut World) -> Result<(), Memory> {
+    *world = world.copy(alloc)?;
+    Ok(())
+}
+
+// ---- tables by numbers
 
 /// A table of values by their numbers, without rows.
-pub fn ids(alloc: Global, args: &[Vec<u8>]) -> Result<String, RowFault> {
+pub fn ids(alloc: Global, to: &mut Answer, args: &[Vec<u8>]) {
     let mut table = IdTable::new(alloc);
-    let mut answers = String::new(alloc);
     for ask in args.chunks(3) {
-        put_word(&mut answers, ask_ids(alloc, &mut table, ask)?.as_str())?;
+        ask_ids(alloc, to, &mut table, ask);
     }
-    Ok(answers)
 }
 
-/// `get` has a place, `find` a number.
-fn ask_ids(alloc: Global, table: &mut IdTable<u32>, ask: &[Vec<u8>]) -> Result<String, RowFault> {
+/// `get` has a place, `find` a number; `put` and `set` have a number and its value, `remove` a
+/// number; with `copy` it goes on as a copy.
+fn ask_ids(alloc: Global, to: &mut Answer, table: &mut IdTable<u32>, ask: &[Vec<u8>]) {
     match ask {
-        [name, id, value] => match word_of(name)? {
-            "get" => id_row_text(alloc, table.get(half_of(id)?)),
-            "find" => value_text(alloc, table.find(long_of(id)?)),
-            name => {
-                change_ids(alloc, table, name, long_of(id)?, value)?;
-                Ok(String::new(alloc))
-            }
+        [name, id, value] => match word_of(name) {
+            "get" => row(to, table.get(half_of(id))),
+            "find" => found(to, table.find(number_of(id))),
+            "put" => to.done(put_id(table, number_of(id), half_of(value))),
+            "set" => set(to, table, number_of(id), half_of(value)),
+            "remove" => table.remove(number_of(id)),
+            "copy" => to.done(copy_ids(alloc, table)),
+            _ => to.is_no_row(),
         },
-        _ => Err(RowFault::Form),
+        _ => to.is_no_row(),
     }
 }
 
-fn id_row_text(alloc: Global, row: Option<&(u64, u32)>) -> Result<String, RowFault> {
+fn row(to: &mut Answer, row: Option<&(u64, u32)>) {
     match row {
-        Some((id, value)) => Ok(format!(in alloc; "{id}-{value}")?),
-        None => Ok("past".to_string(alloc)?),
+        Some((id, value)) => to.pair(*id, u64::from(*value)),
+        None => to.word("past"),
     }
 }
 
-fn value_text(alloc: Global, value: Option<u32>) -> Result<String, RowFault> {
+fn found(to: &mut Answer, value: Option<u32>) {
     match value {
-        Some(value) => Ok(format!(in alloc; "{value}")?),
-        None => Ok("absent".to_string(alloc)?),
+        Some(value) => to.number(u64::from(value)),
+        None => to.word("absent"),
     }
 }
 
-/// `put` and `set` have a number and its value, `remove` a number; with `copy` it goes on as a copy.
-fn change_ids(
-    alloc: Global,
-    table: &mut IdTable<u32>,
-    name: &str,
-    id: u64,
-    value: &[u8],
-) -> Result<(), RowFault> {
-    match name {
-        "put" => {
-            table.reserve(1)?;
-            table.put(id, half_of(value)?);
-            Ok(())
-        }
-        "set" => set(table, id, half_of(value)?),
-        "remove" => {
-            table.remove(id);
-            Ok(())
-        }
-        "copy" => {
-            *table = table.copy(alloc)?;
-            Ok(())
-        }
-        _ => Err(RowFault::Form),
-    }
+fn put_id(table: &mut IdTable<u32>, id: u64, value: u32) -> Result<(), Memory> {
+    table.reserve(1)?;
+    table.put(id, value);
+    Ok(())
 }
 
-fn set(table: &mut IdTable<u32>, id: u64, value: u32) -> Result<(), RowFault> {
+fn set(to: &mut Answer, table: &mut IdTable<u32>, id: u64, value: u32) {
     match table.find(id) {
-        Some(_) => {
-            table.set(id, value);
-            Ok(())
-        }
-        None => Err(RowFault::Form),
+        Some(_) => table.set(id, value),
+        None => to.is_no_row(),
     }
 }
+
+fn copy_ids(alloc: Global, table: &mut IdTable<u32>) -> Result<(), Memory> {
+    *table = table.copy(alloc)?;
+    Ok(())
+}
+
+// ---- copies of tables of one row
 
 /// The row and the key that a copy of a table of one key has: alias, key.
-pub fn pushed_key(alloc: Global, args: &[Vec<u8>]) -> Result<String, RowFault> {
+pub fn pushed_key(alloc: Global, to: &mut Answer, args: &[Vec<u8>]) {
     match args {
         [alias, key] => {
-            let alias = long_of(alias)?;
-            let key = array_of(key)?;
-            let mut keys = KeyTable::new(alloc);
-            keys.push(KeyRow { alias, key })?;
-            key_text(alloc, &keys.copy(alloc)?, alias)
+            let alias = number_of(alias);
+            match copied_key(alloc, alias, array_of(key)) {
+                Ok(keys) => key_in(to, &keys, alias),
+                Err(_) => to.lacks_memory(),
+            }
         }
-        _ => Err(RowFault::Form),
+        _ => to.is_no_row(),
     }
 }
 
-fn key_text(alloc: Global, keys: &KeyTable, alias: u64) -> Result<String, RowFault> {
+fn copied_key(alloc: Global, alias: u64, key: [u8; 32]) -> Result<KeyTable, Memory> {
+    let mut keys = KeyTable::new(alloc);
+    keys.push(KeyRow { alias, key })?;
+    keys.copy(alloc)
+}
+
+fn key_in(to: &mut Answer, keys: &KeyTable, alias: u64) {
     match (keys.get(0), keys.find(alias)) {
         (Some(row), Some(key)) => {
-            let KeyRow { alias, key: first } = row;
-            let first = digits_of(alloc, &first)?;
-            let key = digits_of(alloc, &key)?;
-            Ok(format!(in alloc; "{alias} {first} {key}")?)
+            to.number(row.alias);
+            to.digits(&row.key);
+            to.digits(&key);
         }
-        _ => Err(RowFault::Form),
+        _ => to.is_no_row(),
     }
 }
 
 /// The row and the counter that a copy of a table of one record has: id, failures, moment.
-pub fn pushed_record(alloc: Global, args: &[Vec<u8>]) -> Result<String, RowFault> {
+pub fn pushed_record(alloc: Global, to: &mut Answer, args: &[Vec<u8>]) {
     match args {
         [sid, fails, until] => {
-            let row = GkRow {
-                sid: long_of(sid)?,
-                fails: half_of(fails)?,
-                until: long_of(until)?,
-            };
-            let mut records = GkTable::new(alloc);
-            records.push(row)?;
-            record_text(alloc, &records.copy(alloc)?, row.sid)
+            let sid = number_of(sid);
+            let fails = half_of(fails);
+            let until = number_of(until);
+            match copied_record(alloc, GkRow { sid, fails, until }) {
+                Ok(records) => record_in(to, &records, sid),
+                Err(_) => to.lacks_memory(),
+            }
         }
-        _ => Err(RowFault::Form),
+        _ => to.is_no_row(),
     }
 }
 
-fn record_text(alloc: Global, records: &GkTable, sid: u64) -> Result<String, RowFault> {
+fn copied_record(alloc: Global, row: GkRow) -> Result<GkTable, Memory> {
+    let mut records = GkTable::new(alloc);
+    records.push(row)?;
+    records.copy(alloc)
+}
+
+fn record_in(to: &mut Answer, records: &GkTable, sid: u64) {
     match (records.get(0), records.find(sid)) {
         (Some(row), Some(counter)) => {
-            let GkRow { sid, fails, until } = row;
-            let Counter {
-                fails: found,
-                until: rest,
-            } = counter;
-            Ok(format!(in alloc; "{sid} {fails} {until} {found} {rest}")?)
+            to.number(row.sid);
+            to.number(u64::from(row.fails));
+            to.number(row.until);
+            to.number(u64::from(counter.fails));
+            to.number(counter.until);
         }
-        _ => Err(RowFault::Form),
+        _ => to.is_no_row(),
     }
 }
 
 /// What a copy of a table of one file holds by this name: name, content.
-pub fn pushed_file(alloc: Global, args: &[Vec<u8>]) -> Result<String, RowFault> {
+pub fn pushed_file(alloc: Global, to: &mut Answer, args: &[Vec<u8>]) {
     match args {
-        [name, bytes] => {
-            let row = file_row(alloc, name, bytes)?;
-            let mut files = FileTable::new(alloc);
-            files.push(row)?;
-            content_text(alloc, &files.copy()?, name)
-        }
-        _ => Err(RowFault::Form),
+        [name, bytes] => match name_of(alloc, name) {
+            Ok(file) => match copied_file(alloc, file, bytes) {
+                Ok(files) => content(to, &files, name),
+                Err(_) => to.lacks_memory(),
+            },
+            Err(fault) => to.fails(fault),
+        },
+        _ => to.is_no_row(),
     }
 }
 
-fn file_row(alloc: Global, name: &[u8], bytes: &[u8]) -> Result<FileRow, RowFault> {
-    let name = name_of(alloc, name)?;
+fn copied_file(alloc: Global, name: Name, bytes: &[u8]) -> Result<FileTable, Memory> {
     let bytes = Bytes::of(alloc, bytes)?;
-    Ok(FileRow { name, bytes })
+    let mut files = FileTable::new(alloc);
+    files.push(FileRow { name, bytes })?;
+    files.copy()
 }
 
 /// How many rows a copy of a table of two touched files has: a pushed name, a put one.
-pub fn touched(alloc: Global, args: &[Vec<u8>]) -> Result<String, RowFault> {
+pub fn touched(alloc: Global, to: &mut Answer, args: &[Vec<u8>]) {
     match args {
-        [pushed, put] => {
-            let name = name_of(alloc, pushed)?;
-            let how = Touch::Made(None);
-            let mut touched = TouchTable::new(alloc);
-            touched.push(TouchRow { name, how })?;
-            touched.put(&name_of(alloc, put)?, Touch::Other)?;
-            let len = touched.copy()?.len();
-            Ok(format!(in alloc; "{len}")?)
-        }
-        _ => Err(RowFault::Form),
+        [pushed, put] => match touched_files(alloc, pushed, put) {
+            Ok(touched) => copied_len(to, &touched),
+            Err(fault) => to.fails(fault),
+        },
+        _ => to.is_no_row(),
+    }
+}
+
+fn touched_files(alloc: Global, pushed: &[u8], put: &[u8]) -> Result<TouchTable, RowFault> {
+    let mut touched = made_file(alloc, name_of(alloc, pushed)?)?;
+    put_other(alloc, &mut touched, put)?;
+    Ok(touched)
+}
+
+fn made_file(alloc: Global, name: Name) -> Result<TouchTable, RowFault> {
+    let mut touched = TouchTable::new(alloc);
+    let how = Touch::Made(None);
+    match touched.push(TouchRow { name, how }) {
+        Ok(()) => Ok(touched),
+        Err(_) => Err(RowFault::Memory),
+    }
+}
+
+fn put_other(alloc: Global, touched: &mut TouchTable, name: &[u8]) -> Result<(), RowFault> {
+    let name = name_of(alloc, name)?;
+    match touched.put(&name, Touch::Other) {
+        Ok(()) => Ok(()),
+        Err(_) => Err(RowFault::Memory),
+    }
+}
+
+fn copied_len(to: &mut Answer, touched: &TouchTable) {
+    match touched.copy() {
+        Ok(copy) => to.number(u64::from(copy.len())),
+        Err(_) => to.lacks_memory(),
     }
 }

@@ -2,10 +2,11 @@
 
 use crate::fault::RowFault;
 use crate::words::{byte_of, number_of, word_of};
+use ls_arming::{Arming, UserNumbers};
 use ls_bytes::Bytes;
 use ls_credential::{Credential, Kind};
 use ls_secret::Secret;
-use ls_vault::{Arming, Table, Token, User};
+use ls_vault::{Table, Token, User};
 use std::alloc::Global;
 
 /// A user: the number, the version and the text of the secret, the kind and the text of the
@@ -69,8 +70,7 @@ fn tokens_of(alloc: Global, args: &[Vec<u8>]) -> Result<Table<Token>, RowFault> 
 pub fn arming_of(alloc: Global, args: &[Vec<u8>]) -> Result<Option<Arming>, RowFault> {
     match args {
         [boot, user] => {
-            let mut users = Table::new(alloc);
-            users.push(word_of(user))?;
+            let users = UserNumbers::of(alloc, &[word_of(user)])?;
             let boot = word_of(boot);
             Ok(Some(Arming { boot, users }))
         }
