@@ -2,3 +2,4 @@ pub mod Parts
 pub mod Clear
 pub mod Settled
 pub mod Steps
+pub mod Drafts

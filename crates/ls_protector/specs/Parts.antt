@@ -5,18 +5,27 @@ use Rattle.ls_naming.specs.Named.{only_if}
 use Rattle.ls_board.specs.declared.action.Action.{Action}
 use Rattle.ls_board.specs.declared.action.Action.TheVariants.{Remove, KeyDrop, GkForget}
 use Rattle.ls_board.specs.Reach.{Reach}
-use Rattle.ls_sealing.specs.Protectors.{Protector, is_enrolled, parts_for, file_name}
+use Rattle.ls_sealing.specs.declared.pushing.Place.{Place}
+use Rattle.ls_sealing.specs.Protectors.{Purpose, Protector, is_enrolled, parts_for, file_name}
 use Rattle.ls_sealing.specs.Building.{slot_writes}
 use Rattle.ls_formats.specs.declared.parts.Parts.{Parts}
 
--- the parts of a protector with this slot, on a board with Weaver or without
+-- the protector that is there, and what it is for
+abbrev pub protector_at : Place → Purpose → Protector
+protector_at place purpose = record { user = place.user; id = place.id; purpose = purpose }
+
+-- the names of its files, on a board with Weaver or without
+abbrev pub names_for : Bool → Protector → List (List ℕ)
+names_for weaver p = map (file_name p) (parts_for weaver p.purpose)
+
+-- the parts of a protector with this slot
 abbrev pub parts_of : Bool → Protector → Option ℕ → Parts
 parts_of weaver p slot = record {
   user = p.user;
   id = p.id;
   slot = slot;
   gk = is_enrolled weaver p.purpose;
-  names = map (file_name p) (parts_for weaver p.purpose);
+  names = names_for weaver p;
 }
 
 -- files of these names
