@@ -1,9 +1,7 @@
--- Names that are left of a list, and what a name names.
-use Rattle.std.proofs.Common.{◌≡◌, ◌≢◌, ◌⊎◌, inl, inr, not, ℕ, zero, suc, ◌+◌, ◌≤◌, ◌<◌, length, take, get_or, Bool, true, false, List, [], ◌∷◌, ◌++◌, refl, sym, ◌∙◌, ap, subst, arith}
+-- What a name names, and when it is left.
+use Rattle.std.proofs.Common.{◌≡◌, ◌≢◌, not, ℕ, Bool, true, false, List, sym, ◌∙◌, subst}
 use Rattle.std.specs.Prelude.{◌&&◌, MatchBool, Option, None, Some, Result, Ok, Err}
 use Rattle.std.specs.List.{Contains}
-use Rattle.std.proofs.lemmas.List.{append-nil, take_more, take_all}
-use Rattle.std.proofs.lemmas.List.Elements.{Contains-append_left, Contains-append_right, Contains-append_cases}
 use Rattle.ls_formats.specs.declared.fault.FormatFault.{FormatFault}
 use Rattle.ls_formats.specs.declared.fault.FormatFault.TheVariants.{Bad, Memory}
 use Rattle.ls_formats.specs.declared.name.FileName.{FileName}
@@ -12,52 +10,8 @@ use Rattle.ls_formats.specs.Faults.{Parses, Spells}
 use Rattle.ls_formats.specs.FileNames.{IsFileName, name_text}
 use Rattle.ls_formats.specs.PartNames.{PartOf, IsPartOf, part_name_text}
 use Rattle.ls_record.specs.Rows.{Rec}
-use Rattle.ls_naming.specs.Named.{only_if, NamesFile}
+use Rattle.ls_naming.specs.Named.{NamesFile}
 use Rattle.ls_sweep.specs.Files.{IsUnnamedFile, IsPartNamed, part_in}
-use Rattle.ls_sweep.specs.Sifted.{AreThose}
-
--- ---- what is left of a list
-
-the_one : {X : Type 0} (y x : X) → Contains (y ∷ []) x → y ≡ x
-the_one y x (zero, within, is) = is
-the_one y x (suc k, within, is) = absurd (omega (arith, within))
-
-module _ {X : Type 0} (P : X → Type 0) where
-  pub sifted_none : AreThose P [] []
-  sifted_none x = (λ has. absurd (let within = has.1 in omega (arith, within)), λ both. both.0)
-
-  sifted_next : (front left : List X) (x : X) (b : Bool) → AreThose P front left → MatchBool b (P x) (¬ P x) → AreThose P (front ++ x ∷ []) (left ++ only_if b (x ∷ []))
-  sifted_next front left x true those is y = (
-    λ has. into (Contains-append_cases left (x ∷ []) y has),
-    λ both. out both.1 (Contains-append_cases front (x ∷ []) y both.0),
-  )
-    where
-      into : Contains left y ⊎ Contains (x ∷ []) y → Contains (front ++ x ∷ []) y × P y
-      into (inl k) = let both = (those y).0 k in (Contains-append_left front (x ∷ []) y both.0, both.1)
-      into (inr k) = (Contains-append_right front (x ∷ []) y k, subst P (the_one x y k) is)
-
-      out : P y → Contains front y ⊎ Contains (x ∷ []) y → Contains (left ++ x ∷ []) y
-      out p (inl k) = Contains-append_left left (x ∷ []) y ((those y).1 (k, p))
-      out p (inr k) = Contains-append_right left (x ∷ []) y k
-  sifted_next front left x false those isnt y = (
-    λ has. let both = (those y).0 (subst (λ (l : List X). Contains l y) (append-nil left) has) in (Contains-append_left front (x ∷ []) y both.0, both.1),
-    λ both. subst (λ (l : List X). Contains l y) (sym (append-nil left)) (out both.1 (Contains-append_cases front (x ∷ []) y both.0)),
-  )
-    where
-      out : P y → Contains front y ⊎ Contains (x ∷ []) y → Contains left y
-      out p (inl k) = (those y).1 (k, p)
-      out p (inr k) = absurd (isnt (subst P (sym (the_one x y k)) p))
-
-  -- one more of the list
-  pub sifted_more : (xs left new : List X) (i : ℕ) (x : X) (b : Bool) → AreThose P (take i xs) left → i < length xs → x ≡ get_or xs i x
-      → MatchBool b (P x) (¬ P x) → new ≡ left ++ only_if b (x ∷ []) → AreThose P (take (i + 1) xs) new
-  sifted_more xs left new i x b those within at is pushed =
-      let next = sifted_next (take i xs) left x b those is in
-      subst (λ (l : List X). AreThose P (take (i + 1) xs) l) (sym pushed)
-      (subst (λ (l : List X). AreThose P l (left ++ only_if b (x ∷ []))) (ap (λ (y : X). take i xs ++ y ∷ []) at ∙ sym (take_more xs i x within)) next)
-
-  pub sifted_whole : (xs left : List X) (i : ℕ) → AreThose P (take i xs) left → length xs ≤ i → AreThose P xs left
-  sifted_whole xs left i those past = subst (λ (l : List X). AreThose P l left) (take_all i xs past) those
 
 -- ---- what a name names
 

@@ -1,5 +1,5 @@
 use Rattle.ls_sweep.specs.Files.{IsUnnamedFile}
-use Rattle.ls_sweep.proofs.FileLemmas.{sifted_more, sifted_whole}
+use Rattle.ls_sweep.proofs.SiftLemmas.{sifted_more, sifted_whole}
 use Rattle.ls_sweep.proofs.files.unnamed_files.Goals as goal
 
 pub loop-name-preserved : goal.loop-name-preserved

@@ -1,6 +1,6 @@
 use Rattle.ls_naming.specs.Named.{NamesKey}
 use Rattle.ls_sweep.proofs.SiftLemmas.{unnamed_next, unnamed_whole}
-use Rattle.ls_sweep.proofs.unnamed.unnamed_keys.Goals as goal
+use Rattle.ls_sweep.proofs.ids.unnamed_keys.Goals as goal
 
 pub loop-alias-preserved : goal.loop-alias-preserved
 loop-alias-preserved c =

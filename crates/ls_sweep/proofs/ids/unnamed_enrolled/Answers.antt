@@ -1,6 +1,6 @@
 use Rattle.ls_naming.specs.Named.{NamesEnrolled}
 use Rattle.ls_sweep.proofs.SiftLemmas.{unnamed_next, unnamed_whole}
-use Rattle.ls_sweep.proofs.unnamed.unnamed_enrolled.Goals as goal
+use Rattle.ls_sweep.proofs.ids.unnamed_enrolled.Goals as goal
 
 pub loop-id-preserved : goal.loop-id-preserved
 loop-id-preserved c =
