@@ -11,8 +11,8 @@ use ls_formats::{FileName, PartName};
 use ls_reading::read_file;
 use std::alloc::Global;
 
-/// The name of a file.
-fn name_of(alloc: Global, name: &PartName) -> Result<Name, Memory>
+/// The text of a file's name.
+pub fn part_text(alloc: Global, name: &PartName) -> Result<Name, Memory>
     ensures named { IfOk result (λ text. text ≡ part_name_text name.now) }
 {
     let text = FileName::Protector(*name).print(alloc)?;
@@ -22,8 +22,8 @@ fn name_of(alloc: Global, name: &PartName) -> Result<Name, Memory>
     }
 }
 
-/// What the file of a part holds, if it is there.
-pub(crate) fn part_file<B: Board>(
+/// What the file of a part holds, if it is there. It makes the room for its one call.
+pub fn part_file<B: Board>(
     alloc: Global,
     board: &mut B,
     name: &PartName,
@@ -31,7 +31,7 @@ pub(crate) fn part_file<B: Board>(
     ensures sees { Sees (λ w. file_at w (part_name_text name.now))
         (B.sight board.old) result (B.sight board.new) }
 {
-    let text = name_of(alloc, name)?;
+    let text = part_text(alloc, name)?;
     read_file(alloc, board, text)
 }
 

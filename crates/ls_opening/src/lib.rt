@@ -12,6 +12,7 @@ mod slots;
 mod walk;
 
 pub use checks::{Beside, bytes_fault, file_fault};
+pub use files::{part_file, part_text};
 pub use foreign::Foreign;
 pub use number::blob_version;
 pub use opening::first_foreign;

@@ -1,5 +1,5 @@
 -- What a name names, and when it is left.
-use Rattle.std.proofs.Common.{◌≡◌, ◌≢◌, not, ℕ, Bool, true, false, List, sym, ◌∙◌, subst}
+use Rattle.std.proofs.Common.{◌≡◌, not, ℕ, Bool, true, false, List, sym, ◌∙◌, subst}
 use Rattle.std.specs.Prelude.{◌&&◌, MatchBool, Option, None, Some, Result, Ok, Err}
 use Rattle.std.specs.List.{Contains}
 use Rattle.ls_formats.specs.declared.fault.FormatFault.{FormatFault}
@@ -8,7 +8,7 @@ use Rattle.ls_formats.specs.declared.name.FileName.{FileName}
 use Rattle.ls_formats.specs.declared.name.FileName.TheVariants.{Settings, Protector}
 use Rattle.ls_formats.specs.Faults.{Parses, Spells}
 use Rattle.ls_formats.specs.FileNames.{IsFileName, name_text}
-use Rattle.ls_formats.specs.PartNames.{PartOf, IsPartOf, part_name_text}
+use Rattle.ls_formats.specs.PartNames.{PartOf}
 use Rattle.ls_record.specs.Rows.{Rec}
 use Rattle.ls_naming.specs.Named.{NamesFile}
 use Rattle.ls_sweep.specs.Files.{IsUnnamedFile, IsPartNamed, part_in}

@@ -4,7 +4,6 @@ use Rattle.std.specs.Prelude.{IfErr}
 use Rattle.std.specs.List.{AllByRecursion, flat_map}
 use Rattle.ls_bytes.specs.Fields.{be64}
 use Rattle.ls_bytes.specs.Names.{IsName}
-use Rattle.ls_board.specs.declared.action.Action.{Action}
 use Rattle.ls_board.specs.declared.action.Action.TheVariants.{List as ListNames, KeyList, GkList}
 use Rattle.ls_board.specs.declared.action.Answer.{Answer}
 use Rattle.ls_board.specs.declared.action.BoardFault.{BoardFault}

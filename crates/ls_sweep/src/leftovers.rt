@@ -2,7 +2,8 @@
 ghost use Rattle.std.specs.Prelude.{◌≡◌, ◌<◌, ◌^◌, ◌++◌, ◌∷◌, [], map, length, sum_by, IfOk, IsSome, IfSome, OnOk};
 ghost use Rattle.ls_board.specs.declared.action.Action.TheVariants.{Remove, GkForget, KeyDrop};
 ghost use Rattle.ls_board.specs.Effect.{weight_of};
-ghost use Rattle.ls_standing.specs.Clearing.{blank_write, sweeping};
+ghost use Rattle.ls_standing.specs.Clearing.{blank_write};
+ghost use Rattle.ls_sweep.specs.Swept.{sweep_of};
 
 use ls_board::{Action, Plan};
 use ls_bytes::{IdList, Memory, Name, NameList, SlotList};
@@ -28,8 +29,8 @@ pub struct Leftovers {
 /// Sync.
 #[derive(Drop)]
 pub struct Sweep {
-    plan: Plan,
-    takes_cell: bool,
+    pub(crate) plan: Plan,
+    pub(crate) takes_cell: bool,
 }
 
 impl Model for Sweep {
@@ -114,8 +115,7 @@ fn push_drops(plan: &mut Plan, aliases: &[u64]) -> Result<(), Memory>
 /// The sweep that takes away what is left over, and nothing else: files, slots, Gatekeeper records,
 /// keys, and then the cell.
 pub fn sweep_plan(alloc: Global, left: &Leftovers) -> Result<Sweep, Memory>
-    ensures same { IfOk result (λ sweep. sweep ≡ sweeping left.now.files left.now.slots
-        left.now.enrolled left.now.keys left.now.cell) }
+    ensures same { IfOk result (λ sweep. sweep ≡ sweep_of left.now) }
 {
     let mut plan = Plan::new(alloc);
     push_removals(alloc, &mut plan, left.files.as_slice())?;

@@ -19,6 +19,7 @@ mod fault;
 mod files;
 mod questions;
 mod scene;
+mod sweeping;
 mod users;
 mod words;
 
@@ -58,6 +59,7 @@ fn answer(alloc: Global, scene: &mut Scene, line: &str) -> Result<String, RowFau
         "first-foreign" => questions::first_foreign_place(alloc, scene, rest),
         "bare" => questions::bare(alloc, scene, &[], rest),
         "bare-with" => questions::bare_with(alloc, scene, rest),
+        "swept" => questions::bare_and_stands_swept(alloc, scene, rest),
         "quiet" => questions::quiet(alloc, scene, rest),
         _ => {
             scene.say(alloc, name, rest)?;

@@ -3,6 +3,7 @@
 use crate::actions::action_of;
 use crate::fault::RowFault;
 use crate::scene::{Scene, change};
+use crate::sweeping::swept;
 use crate::words::{args_of, bytes_of, cut};
 use ls_board::World;
 use ls_bytes::Name;
@@ -59,6 +60,15 @@ pub fn bare_with(alloc: Global, scene: &Scene, text: &str) -> Result<String, Row
     let (word, rest) = cut(text);
     let name = Name::of(alloc, &bytes_of(alloc, word)?)?;
     bare(alloc, scene, &[name], rest)
+}
+
+/// Whether the world is bare once it was swept, and whether it stands for the vault then.
+pub fn bare_and_stands_swept(alloc: Global, scene: &Scene, text: &str) -> Result<String, RowFault> {
+    let world = swept(alloc, changed(alloc, scene, text)?, &scene.record)?;
+    let bare = is_bare(alloc, &scene.start, &world, &scene.record, &[])?;
+    let bare = said(alloc, bare)?;
+    let stands = said(alloc, stands_for(alloc, &world, &scene.vault)?)?;
+    Ok(format!(in alloc; "{bare} {stands}")?)
 }
 
 /// Whether an action is quiet.
