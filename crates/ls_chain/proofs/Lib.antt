@@ -11,4 +11,8 @@ pub mod TryLemmas
 mod MayTryLemmas
 mod AttemptLemmas
 mod TokenAttemptLemmas
+mod HeldLinkLemmas
+pub mod SealedEndLemmas
+pub mod TokenEndLemmas
+mod TokenRowLemmas
 mod HandleFileLemmas

@@ -49,10 +49,13 @@ checked : (weaver : Bool) (l : Links) (o : Offered) → HasSlotFile weaver l →
 checked true l o has = let file = has refl in ap (λ (x : Result (List ℕ) Spot). next_of x (λ bytes. Ok o)) (found Weaver (l.files Weaver) file.0 file.1)
 checked false l o has = refl
 
+pub offered_text : (id : ℕ) (h : Held) (c : KindAndText) (s : SecretValue) (l : Links) → Seals id h c s → AreOfferLinks h l → (text : List ℕ) → offer_chain l h.weaver c.kind text ≡ Ok (offered_to h text)
+offered_text id h c s l seals links text =
+    ap (λ (x : Result Offered Spot). next_of x (slot_checked l h.weaver)) (stored h.weaver l text c.kind (h.files Pwd) seals.kind links.pwd)
+    ∙ checked h.weaver l (offered_to h text) links.slot
+
 pub offered_leads : (id : ℕ) (h : Held) (c : KindAndText) (s : SecretValue) (l : Links) → Seals id h c s → AreOfferLinks h l → offer_chain l h.weaver c.kind c.text ≡ Ok (offered_to h c.text)
-offered_leads id h c s l seals links =
-    ap (λ (x : Result Offered Spot). next_of x (slot_checked l h.weaver)) (stored h.weaver l c.text c.kind (h.files Pwd) seals.kind links.pwd)
-    ∙ checked h.weaver l (offered_to h c.text) links.slot
+offered_leads id h c s l seals links = offered_text id h c s l seals links c.text
 
 -- ---- a token
 

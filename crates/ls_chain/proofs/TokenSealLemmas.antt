@@ -12,9 +12,9 @@ use Rattle.ls_formats.specs.declared.part.FilePart.TheVariants.{SpBlob, Secdis, 
 use Rattle.ls_weaver.specs.declared.slot.Slot.{Slot}
 use Rattle.ls_sealing.specs.Chain.{discardable_share, layer_personal, opened_outer, opened_layers, opened_discardable}
 use Rattle.ls_sealing.specs.Protectors.{Held}
-use Rattle.ls_sealing.specs.Seals.{SealsToken, CompletesTo, content_of, slot_value, discardable_size, discardable_of, token_secret}
+use Rattle.ls_sealing.specs.Seals.{SealsToken, CompletesTo, blob_text, content_of, slot_value, discardable_size, discardable_of, token_secret}
 use Rattle.ls_chain.specs.declared.fault.Spot.{Spot}
-use Rattle.ls_chain.specs.declared.token.TokenEnd.TheVariants.{Opened}
+use Rattle.ls_chain.specs.declared.token.TokenEnd.TheVariants.{Opened, WrongToken}
 use Rattle.ls_chain.specs.declared.token.TokenFiles.{TokenFiles}
 use Rattle.ls_chain.specs.Links.{spot, unless_at, sound_file, next_of, Links}
 use Rattle.ls_chain.specs.Credentials.{secret_by, secret_in}
@@ -45,6 +45,10 @@ discardable_found false slot file held value is its size = ap (discardable_in fi
 half_found : (secret p0 : List ℕ) (outer : Option (List ℕ)) → option_and_then (opened_under secret layer_personal) outer ≡ Some p0 → half_by secret outer ≡ Ok (Some p0)
 half_found secret p0 None is = absurd (cc)
 half_found secret p0 (Some inner) is = ap (λ (x : Option (List ℕ)). Ok x) is
+
+half_missed : (secret other p0 : List ℕ) (outer : Option (List ℕ)) → option_and_then (opened_under secret layer_personal) outer ≡ Some p0 → option_and_then (opened_under other layer_personal) outer ≡ None → half_by other outer ≡ Ok None
+half_missed secret other p0 None is none = absurd (cc)
+half_missed secret other p0 (Some inner) is none = ap (λ (x : Option (List ℕ)). Ok x) none
 
 -- ---- the halves
 
@@ -93,3 +97,17 @@ module _ (h : Held) (l : Links) (token : List ℕ) (s : SecretValue) (p0 : List 
       ∙ ap (λ (x : Result (Option (List ℕ)) Spot). next_of x (λ half. text_of_half l (slice_index files.blob 0) half)) (half_found (token ++ discardable_share bytes) p0 (opened_outer l.key (drop 2 files.blob)) text)
       ∙ ap (λ (v : ℕ). next_of (completed_in l v p0) (λ s. Ok (Opened s))) version
       ∙ ap (λ (x : Result SecretValue Spot). next_of x (λ s. Ok (Opened s))) halves
+
+  missed : (other : List ℕ) → blob_text h (token_secret h other) ≡ None → option_and_then (opened_under (other ++ discardable_share bytes) layer_personal) (opened_outer l.key (drop 2 files.blob)) ≡ None
+  missed other none =
+      ap (λ (k : Option (List ℕ)). opened_layers k (token_secret h other) (drop 2 files.blob)) links.key
+      ∙ ap (λ (f : Option (List ℕ)). opened_layers h.key (token_secret h other) (content_of f)) (sym links.blob)
+      ∙ none
+
+  -- other bytes, under which the blob doesn't open
+  pub others_lead : (other : List ℕ) → blob_text h (token_secret h other) ≡ None → token_chain l other files value ≡ Ok WrongToken
+  others_lead other none =
+      ap (λ (x : Result (List ℕ) Spot). next_of x (λ bytes. next_of (half_in l.key (other ++ discardable_share bytes) files.blob) (λ half. text_of_half l (slice_index files.blob 0) half)))
+      (discardable_found h.weaver h.slot files.secdis (h.files Secdis) value links.secdis links.share seals.discardable)
+      ∙ ap (λ (x : Result (Option (List ℕ)) Spot). next_of x (λ half. text_of_half l (slice_index files.blob 0) half))
+      (half_missed (token ++ discardable_share bytes) (other ++ discardable_share bytes) p0 (opened_outer l.key (drop 2 files.blob)) text (missed other none))

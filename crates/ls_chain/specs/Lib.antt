@@ -12,3 +12,5 @@ pub mod TokenAttempts
 pub mod MetricsFile
 pub mod ResumeFiles
 pub mod HandleFile
+pub mod SealedEnds
+pub mod TokenRows

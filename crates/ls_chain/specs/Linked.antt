@@ -25,9 +25,13 @@ pub record AreLinks (h : Held) (l : Links) (value : Option (List ℕ)) : Type 0 
   pub share : MatchBool h.weaver (value ≡ Some (slot_value h.slot))
       ((value ≡ None) × (l.files Secdis ≡ h.files Secdis))
 
+-- a file, where it is there, is in the format of its part
+abbrev pub IsInForm : FilePart → Option (List ℕ) → Type 0
+IsInForm part file = IfSome file (λ bytes. format_fault part bytes ≡ None)
+
 -- a file that is held is in the format of its part
 abbrev pub HasForm : Held → FilePart → Type 0
-HasForm h part = IfSome (h.files part) (λ bytes. format_fault part bytes ≡ None)
+HasForm h part = IsInForm part (h.files part)
 
 -- a file is there, and in the format of its part
 abbrev pub IsSoundFile : FilePart → Option (List ℕ) → List ℕ → Type 0

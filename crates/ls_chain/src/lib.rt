@@ -22,7 +22,10 @@ pub use attempting::attempt;
 pub use credential::open_credential;
 pub use fault::{ChainFault, Spot};
 pub use handle_file::check_handle;
-pub use laws::{the_first_check_that_fails_is_answered, what_seals_leads_to_the_secret};
+pub use laws::{
+    attempts_open_what_is_sealed, the_first_check_that_fails_is_answered,
+    what_seals_leads_to_the_secret,
+};
 pub use metrics_file::read_metrics;
 pub use offered::{Offered, read_offer, spot_name};
 pub use opening::open_outer;

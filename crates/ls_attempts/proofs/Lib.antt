@@ -1,0 +1,5 @@
+mod RowLemmas
+mod HandleLemmas
+mod CountLemmas
+mod MetricsLemmas
+mod EndLemmas
