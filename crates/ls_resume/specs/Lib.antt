@@ -1,0 +1,9 @@
+pub mod Ascending
+pub mod Secrets
+pub mod Sealing
+pub mod Pushing
+pub mod Learning
+pub mod Passing
+pub mod Each
+pub mod Resuming
+pub mod Telling
