@@ -1,3 +1,3 @@
 mod WeightLemmas
-mod ChangeLemmas
-mod SightLemmas
+pub mod ChangeLemmas
+pub mod SightLemmas

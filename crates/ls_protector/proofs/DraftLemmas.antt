@@ -1,6 +1,6 @@
 -- The draft of a credential's protector.
 use Rattle.std.proofs.Common.{◌≡◌, ◌≤◌, ◌<◌, ◌+◌, ℕ, Bool, true, false, cond, List, length, Option, None, Some, Result, Ok, Err, refl, sym, ◌∙◌, ap, subst, arith}
-use Rattle.std.specs.Prelude.{is_some, IfSome, MatchOption, IsTrue}
+use Rattle.std.specs.Prelude.{is_some, IfSome, MatchOption}
 use Rattle.byteorder.specs.Endian.{big_number}
 use Rattle.ls_credential.specs.declared.kind.Kind.{Kind}
 use Rattle.ls_credential.specs.Rules.{KindAndText}
@@ -10,9 +10,7 @@ use Rattle.ls_board.specs.declared.action.Action.TheVariants.{GkSign}
 use Rattle.ls_board.specs.declared.action.Answer.{Answer}
 use Rattle.ls_board.specs.declared.action.Answer.TheVariants.{Handle}
 use Rattle.ls_board.specs.declared.action.BoardFault.{BoardFault}
-use Rattle.ls_board.specs.declared.world.World.{World}
 use Rattle.ls_board.specs.Acts.{Sight, Acts, Readies}
-use Rattle.ls_board.specs.Effect.{IsAnswer}
 use Rattle.ls_board.specs.Gatekeeper.{signed}
 use Rattle.ls_board.specs.Reach.{AllTouchOnly}
 use Rattle.ls_secret.specs.Secrets.{SecretValue}

@@ -19,8 +19,12 @@ use Rattle.ls_formats.specs.declared.part.FilePart.{FilePart}
 use Rattle.ls_naming.specs.Named.{only_if}
 use Rattle.ls_sealing.specs.Building.{Writing, writing_actions, slot_writes, puts}
 use Rattle.ls_sealing.specs.Protectors.{Protector, parts_for, is_enrolled, file_name}
-use Rattle.ls_standing.proofs.ContainsLemmas.{in_map, at_first, behind_first}
+use Rattle.ls_record.specs.Rows.{Rec, IsRecord}
+use Rattle.ls_standing.specs.Quiet.{IsUnnamed, IsUnnamedProtector}
+use Rattle.ls_standing.proofs.ContainsLemmas.{in_map, of_map, at_first, behind_first}
+use Rattle.ls_standing.proofs.TouchLemmas.{files_unnamed}
 use Rattle.ls_formats.specs.declared.parts.Parts.{Parts}
+use Rattle.ls_protector.specs.Clear.{IsClear}
 use Rattle.ls_protector.specs.Parts.{parts_of, reach_of_names, reach_of_parts, erasing_of, first_removed}
 use Rattle.ls_protector.specs.Settled.{IsErased}
 
@@ -41,6 +45,9 @@ erasing_length None id true = omega arith
 erasing_length (Some n) id false = omega arith
 erasing_length (Some n) id true = omega arith
 
+pub erasing_few : (p : Parts) → length (erasing_of p) ≤ 3
+erasing_few p = erasing_length p.slot p.id p.gk
+
 erasing_weight : (slot : Option ℕ) (id : ℕ) (gk : Bool) → sum_by weight_of (erasing slot id gk) ≡ 0
 erasing_weight None id false = refl
 erasing_weight None id true = refl
@@ -59,9 +66,9 @@ erasing_applies w None id true = (tt, (tt, tt))
 erasing_applies w (Some n) id false = (tt, (tt, tt))
 erasing_applies w (Some n) id true = (tt, (tt, (tt, tt)))
 
-pub can_erase : (s : Sight) (p : Parts) → IfSome p.slot (λ n. n < s.slots) → 3 ≤ s.actions → CanRun s (erasing_of p)
+pub can_erase : (s : Sight) (p : Parts) → IfSome p.slot (λ n. n < s.slots) → length (erasing_of p) ≤ s.actions → CanRun s (erasing_of p)
 can_erase s p within room = record {
-  actions = let few = erasing_length p.slot p.id p.gk in omega (arith, few, room);
+  actions = room;
   bytes = let none = erasing_weight p.slot p.id p.gk in omega (arith, none);
   sound = erasing_sound s.slots p.slot p.id p.gk within;
   applies = λ told. erasing_applies s.world p.slot p.id p.gk;
@@ -139,3 +146,15 @@ module _ (p : Protector) (slot : Option ℕ) (m : Writing) where
     touch_both reach (only_if (is_enrolled (is_some slot) p.purpose) (GkEnroll p.id ∷ [])) _ (enroll_touch (is_enrolled (is_some slot) p.purpose) refl)
         (touch_both reach (slot_writes slot m.slot_key m.value) (puts p m.content (parts_for (is_some slot) p.purpose)) (slot_touch slot refl) (put_touch (parts_for (is_some slot) p.purpose) (λ part has. has))),
   )
+
+-- ---- what isn't named
+
+pub unnamed_clear : (w : World) (r : Rec) (p : Protector) (slot : Option ℕ) → IsRecord r → IsUnnamedProtector w r p slot → IsClear w r (parts_of (is_some slot) p slot)
+unnamed_clear w r p slot is un = record {
+  files = λ n has.
+      let part = of_map (file_name p) (parts_for (is_some slot) p.purpose) n has in
+      subst (IsUnnamed w r) part.2 (files_unnamed w r p slot is un part.0);
+  slot = un.its_slot;
+  key = un.key;
+  counter = un.counter;
+}

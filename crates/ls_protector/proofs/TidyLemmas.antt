@@ -1,8 +1,7 @@
 -- The removing of the first of some files that aren't named.
-use Rattle.std.proofs.Common.{◌≡◌, ◌≤◌, ℕ, IsTrue, List, [], ◌∷◌, length, arith}
+use Rattle.std.proofs.Common.{◌≤◌, ℕ, IsTrue, List, [], ◌∷◌, length, arith}
 use Rattle.std.specs.Prelude.{Result}
 use Rattle.std.specs.List.{Contains}
-use Rattle.ls_board.specs.declared.action.Action.TheVariants.{Remove}
 use Rattle.ls_board.specs.declared.action.Part.{Part}
 use Rattle.ls_board.specs.Acts.{Sight}
 use Rattle.ls_board.specs.Reach.{SameBut}

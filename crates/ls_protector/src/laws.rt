@@ -1,13 +1,16 @@
 //! What is known of a protector's parts, whatever becomes of other protectors, with no code.
-ghost use Rattle.std.specs.Prelude.{◌≡◌, ℕ, List, Option, is_some};
+ghost use Rattle.std.specs.Prelude.{◌≡◌, ◌≤◌, ℕ, List, length, Option, is_some};
 ghost use Rattle.ls_board.specs.declared.action.Action.{Action as Actions};
 ghost use Rattle.ls_board.specs.declared.world.World.{World as Worlds};
 ghost use Rattle.ls_board.specs.Images.{Within};
 ghost use Rattle.ls_board.specs.Reach.{TouchesOnly, AllTouchOnly, SameBut};
 ghost use Rattle.ls_board.specs.Runs.{after_all, PlanImage};
+ghost use Rattle.ls_record.specs.Rows.{Rec, IsRecord};
+ghost use Rattle.ls_standing.specs.Quiet.{IsUnnamedProtector, unnamed};
 ghost use Rattle.ls_sealing.specs.Building.{Writing, writing_actions, erasing_actions};
 ghost use Rattle.ls_sealing.specs.Protectors.{Protector};
 ghost use Rattle.ls_formats.specs.declared.parts.Parts.{Parts as PartsOf};
+ghost use Rattle.ls_protector.specs.Clear.{IsClear};
 ghost use Rattle.ls_protector.specs.Parts.{parts_of, reach_of_parts, reach_beside_parts, erasing_of};
 ghost use Rattle.ls_protector.specs.Settled.{IsSettled, SamePartsOf, IsErased, AreApart};
 
@@ -18,6 +21,16 @@ pub fn parts_are_those_of_a_protector()
     ensures erasing { (p : Protector) (slot : Option ℕ)
         → erasing_of (parts_of (is_some slot) p slot) ≡ erasing_actions p slot }
     ensures erased { (p : PartsOf) → AllTouchOnly (reach_of_parts p) (erasing_of p) }
+    ensures few { (p : PartsOf) → length (erasing_of p) ≤ 3 }
+{}
+
+/// A record that names nothing of a protector names nothing of its parts, and what touches those
+/// alone touches nothing that it names.
+pub fn unnamed_protectors_are_clear()
+    ensures clear { (w : Worlds) (r : Rec) (p : Protector) (slot : Option ℕ) → IsRecord r
+        → IsUnnamedProtector w r p slot → IsClear w r (parts_of (is_some slot) p slot) }
+    ensures touches { (w : Worlds) (r : Rec) (p : PartsOf) (plan : List Actions) → IsClear w r p
+        → AllTouchOnly (reach_of_parts p) plan → AllTouchOnly (unnamed w r) plan }
 {}
 
 /// While no action touches its parts, a protector stays as it is: its files, its slot, its key and

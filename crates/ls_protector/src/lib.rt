@@ -15,8 +15,8 @@ mod tidy;
 pub use building::build_protector;
 pub use drafting::draft_credential;
 pub use laws::{
-    parts_are_those_of_a_protector, protectors_stand_beside_each_other, what_is_erased_stays,
-    what_is_settled_stays,
+    parts_are_those_of_a_protector, protectors_stand_beside_each_other,
+    unnamed_protectors_are_clear, what_is_erased_stays, what_is_settled_stays,
 };
 pub use naming::{bind_named, found, settle, stage};
 pub use parts::{parts_for_credential, parts_for_token};

@@ -1,5 +1,5 @@
 //! A protector on its way out.
-ghost use Rattle.std.specs.Prelude.{◌≡◌, ◌≤◌, ◌<◌, ◌∷◌, [], IsTrue, IfOk, IfErr, IfSome, OnOk, replicate};
+ghost use Rattle.std.specs.Prelude.{◌≡◌, ◌≤◌, ◌<◌, ◌∷◌, [], IsTrue, IfOk, IfErr, IfSome, OnOk, length, replicate};
 ghost use Rattle.ls_board.specs.Acts.{Sight};
 ghost use Rattle.ls_board.specs.Keeping.{Keeps};
 ghost use Rattle.ls_board.specs.Reach.{SameBut};
@@ -89,7 +89,7 @@ pub fn retire<B: Board>(
 ) -> Result<Retired, (Retired, Part)>
     requires clear { IsClearOf (B.sight board.old) named }
     requires slot { IfSome named.slot (λ n. n < (B.sight board.old).slots) }
-    requires room { 3 ≤ (B.sight board.old).actions }
+    requires room { length (erasing_of named) ≤ (B.sight board.old).actions }
     ensures parts { IfOk result (λ retired. retired ≡ named) }
     ensures back { IfErr result (λ failed. failed.0 ≡ named) }
     ensures did { OnOk result (Did (B.sight board.old) (erasing_of named) (B.sight board.new)) }

@@ -1,9 +1,8 @@
-use Rattle.std.proofs.Common.{◌≡◌, ◌∙◌, true, false, sym, ap, None}
+use Rattle.std.proofs.Common.{◌≡◌, ◌∙◌, true, false, ap, None}
 use Rattle.std.specs.Prelude.{is_some}
 use Rattle.std.proofs.lemmas.Result.{err_from_is_err_and}
 use Rattle.ls_credential.specs.declared.kind.Kind.{Kind}
 use Rattle.ls_credential.specs.Rules.{KindAndText}
-use Rattle.ls_board.specs.Gatekeeper.{signed}
 use Rattle.ls_reading.proofs.SeeLemmas.{sees_known, sees_err}
 use Rattle.ls_sealing.specs.Building.{new_handle}
 use Rattle.ls_sealing.specs.Draws.{credential_draw}

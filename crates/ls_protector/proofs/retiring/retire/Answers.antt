@@ -1,5 +1,17 @@
+use Rattle.std.proofs.Common.{sym, subst}
+use Rattle.ls_board.specs.Runs.{CanRun}
+use Rattle.ls_formats.specs.declared.parts.Parts.{Parts}
+use Rattle.ls_protector.specs.Parts.{erasing_of}
+use Rattle.ls_protector.proofs.PartLemmas.{can_erase}
 use Rattle.ls_protector.proofs.RetireLemmas.{erasing_but, erasing_stands, erasing_erases}
 use Rattle.ls_protector.proofs.retiring.retire.Goals as goal
+
+pub erase-requires : goal.erase-requires
+erase-requires g c = record {
+  run =
+      subst (λ (p : Parts). CanRun (g.B.Board.sight c.args.board.now) (erasing_of p)) (sym c.named.view_is)
+      (can_erase (g.B.Board.sight c.args.board.now) c.args.named c.requires.slot c.requires.room);
+}
 
 pub returns-in-Ok-clause-erased : goal.returns-in-Ok-clause-erased
 returns-in-Ok-clause-erased g c =

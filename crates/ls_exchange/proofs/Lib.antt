@@ -1,0 +1,6 @@
+mod ListLemmas
+mod TurnLemmas
+mod ClearLemmas
+mod ExchangeLemmas
+mod StageLemmas
+mod WeightLemmas
