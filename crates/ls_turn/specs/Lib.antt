@@ -1,0 +1,5 @@
+pub mod Agreeing
+pub mod Refusing
+pub mod Serving
+pub mod Working
+pub mod Fresh
