@@ -1,0 +1,6 @@
+mod ZipLemmas
+mod KeepingLemmas
+mod KeepLemmas
+mod KnownLemmas
+mod BeginLemmas
+mod OpeningLemmas
