@@ -8,12 +8,15 @@ use std::alloc::{AllocError, Global};
 pub enum RowFault {
     /// It isn't a function with arguments that the function takes.
     Form,
+    /// An argument has another length than the function takes.
+    Length,
     /// There was no memory.
     Memory,
 }
 
-/// The words of an answer, and what stands in its way. What is put behind a fault isn't printed, so
-/// who puts a word needs no look at what became of the one before.
+/// The words of an answer, and what stands in its way. The first fault counts, and what is put behind
+/// it isn't printed: so who puts a word or reads an argument needs no look at what became of the one
+/// before.
 #[derive(Drop)]
 pub struct Answer {
     alloc: Global,
@@ -36,23 +39,26 @@ impl Answer {
         match self.fault {
             None => Ok(self.text.as_str()),
             Some(RowFault::Form) => Ok("no row"),
+            Some(RowFault::Length) => Ok("wrong length"),
             Some(RowFault::Memory) => Err(AllocError),
+        }
+    }
+
+    /// There is no answer for this cause.
+    pub fn fails(&mut self, fault: RowFault) {
+        if self.fault.is_none() {
+            self.fault = Some(fault);
         }
     }
 
     /// There was no memory for the answer.
     pub fn lacks_memory(&mut self) {
-        self.fault = Some(RowFault::Memory);
+        self.fails(RowFault::Memory);
     }
 
     /// The row isn't one that has an answer.
     pub fn is_no_row(&mut self) {
-        self.fault = Some(RowFault::Form);
-    }
-
-    /// There is no answer for this cause.
-    pub fn fails(&mut self, fault: RowFault) {
-        self.fault = Some(fault);
+        self.fails(RowFault::Form);
     }
 
     /// What has no answer was done, if there was memory for it.

@@ -9,7 +9,8 @@ use std::alloc::Global;
 pub fn sealed(alloc: Global, to: &mut Answer, args: &[Vec<u8>]) {
     match args {
         [key, personal, iv, plain] if personal.len() <= 128 && plain.len() <= 1 << 24 => {
-            to.bytes(seal_under(alloc, key, personal, &array_of(iv), plain));
+            let iv = array_of(to, iv);
+            to.bytes(seal_under(alloc, key, personal, &iv, plain));
         }
         _ => to.is_no_row(),
     }

@@ -2,6 +2,7 @@
 ghost use Rattle.std.specs.Prelude.{◌≡◌, is_some, true};
 
 use crate::answer::{Answer, RowFault};
+use crate::secrets::of_halves;
 use crate::words::{array_of, byte_of, half_of, number_of};
 use ls_board::Plan;
 use ls_bytes::Memory;
@@ -17,13 +18,18 @@ use std::alloc::{AllocError, Global};
 pub fn key(alloc: Global, to: &mut Answer, args: &[Vec<u8>]) {
     match args {
         [pin, salt] => match credential_of(alloc, Kind::Pin, pin) {
-            Ok(pin) => match stretched(alloc, &pin, &array_of(salt)) {
-                Ok(text) => to.digits(&weaver_key(&text)),
-                Err(_) => to.lacks_memory(),
-            },
+            Ok(pin) => key_of(alloc, to, &pin, salt),
             Err(fault) => to.fails(fault),
         },
         _ => to.is_no_row(),
+    }
+}
+
+fn key_of(alloc: Global, to: &mut Answer, pin: &Credential, salt: &[u8]) {
+    let salt = array_of(to, salt);
+    match stretched(alloc, pin, &salt) {
+        Ok(text) => to.digits(&weaver_key(&text)),
+        Err(_) => to.lacks_memory(),
     }
 }
 
@@ -66,7 +72,7 @@ pub fn discardable(to: &mut Answer, args: &[Vec<u8>]) {
 /// inner and outer iv, halves.
 pub fn sealed(alloc: Global, to: &mut Answer, args: &[Vec<u8>]) {
     match args {
-        [keys @ .., p0, p1] => match Secret::create(alloc, &array_of(p0), &array_of(p1)) {
+        [keys @ .., p0, p1] => match of_halves(alloc, to, p0, p1) {
             Ok(secret) => sealed_secret(alloc, to, keys, &secret),
             Err(_) => to.lacks_memory(),
         },
@@ -78,8 +84,8 @@ fn sealed_secret(alloc: Global, to: &mut Answer, keys: &[Vec<u8>], secret: &Secr
     match keys {
         [key, value, inner, outer] => match protector_of(alloc, value) {
             Ok(protector) => {
-                let key = array_of(key);
-                let (inner, outer) = (array_of(inner), array_of(outer));
+                let key = array_of(to, key);
+                let (inner, outer) = (array_of(to, inner), array_of(to, outer));
                 to.bytes(layered(alloc, &key, &protector, &inner, &outer, secret.sp_text()));
             }
             Err(_) => to.lacks_memory(),
@@ -101,11 +107,11 @@ pub fn credential_weight(alloc: Global, to: &mut Answer, args: &[Vec<u8>]) {
     match args {
         [user, id, slot, p0, p1, drawn] => {
             let place = Place {
-                user: half_of(user),
-                id: number_of(id),
-                slot: Some(half_of(slot)),
+                user: half_of(to, user),
+                id: number_of(to, id),
+                slot: Some(half_of(to, slot)),
             };
-            match Secret::create(alloc, &array_of(p0), &array_of(p1)) {
+            match of_halves(alloc, to, p0, p1) {
                 Ok(secret) => default_weight(alloc, to, &place, &secret, drawn),
                 Err(_) => to.lacks_memory(),
             }
@@ -138,25 +144,23 @@ pub fn token_weight(alloc: Global, to: &mut Answer, args: &[Vec<u8>]) {
     match args {
         [user, id, token, version, p0, drawn] if drawn.len() == 16440 => {
             let place = Place {
-                user: half_of(user),
-                id: number_of(id),
+                user: half_of(to, user),
+                id: number_of(to, id),
                 slot: None,
             };
-            let version = byte_of(version);
+            let version = byte_of(to, version);
+            let p0 = array_of(to, p0);
             if place.id == 0 || version < 2 || version > 3 {
                 return to.is_no_row();
             }
-            weight(
-                to,
-                token_plan(alloc, &place, token, version, &array_of(p0), drawn),
-            );
+            weight(to, token_plan(alloc, &place, token, version, &p0, drawn));
         }
         _ => to.is_no_row(),
     }
 }
 
 /// How many actions a plan has, and how many bytes they hold.
-fn weight(to: &mut Answer, plan: Result<Plan, Memory>) {
+pub fn weight(to: &mut Answer, plan: Result<Plan, Memory>) {
     match plan {
         Ok(plan) => {
             let (actions, bytes) = plan.weight();

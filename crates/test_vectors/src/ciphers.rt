@@ -10,8 +10,9 @@ use std::alloc::{AllocError, Global};
 pub fn encrypted(to: &mut Answer, args: &[Vec<u8>]) {
     match args {
         [key, block] => {
-            let cipher = Aes256::new(&array_of(key));
-            to.digits(&cipher.encrypt_block(&array_of(block)));
+            let cipher = Aes256::new(&array_of(to, key));
+            let block = array_of(to, block);
+            to.digits(&cipher.encrypt_block(&block));
         }
         _ => to.is_no_row(),
     }
@@ -20,8 +21,9 @@ pub fn encrypted(to: &mut Answer, args: &[Vec<u8>]) {
 pub fn multiplied(to: &mut Answer, args: &[Vec<u8>]) {
     match args {
         [h, block] => {
-            let table = HTable::of(&array_of(h));
-            to.digits(&times_h(&table, &array_of(block)));
+            let table = HTable::of(&array_of(to, h));
+            let block = array_of(to, block);
+            to.digits(&times_h(&table, &block));
         }
         _ => to.is_no_row(),
     }
@@ -30,7 +32,8 @@ pub fn multiplied(to: &mut Answer, args: &[Vec<u8>]) {
 pub fn sealed(alloc: Global, to: &mut Answer, args: &[Vec<u8>]) {
     match args {
         [key, iv, plain] if plain.len() <= 1 << 24 => {
-            to.bytes(seal(alloc, &array_of(key), &array_of(iv), plain));
+            let (key, iv) = (array_of(to, key), array_of(to, iv));
+            to.bytes(seal(alloc, &key, &iv, plain));
         }
         _ => to.is_no_row(),
     }
@@ -39,10 +42,13 @@ pub fn sealed(alloc: Global, to: &mut Answer, args: &[Vec<u8>]) {
 /// The digest of what bytes 0, 7, 14 and so on, modulo 256, are sealed to.
 pub fn sealed_sevens(alloc: Global, to: &mut Answer, args: &[Vec<u8>]) {
     match args {
-        [key, iv, len] => match sevens(alloc, half_of(len)) {
-            Ok(plain) => sealed_digest(alloc, to, &array_of(key), &array_of(iv), &plain),
-            Err(_) => to.lacks_memory(),
-        },
+        [key, iv, len] => {
+            let (key, iv) = (array_of(to, key), array_of(to, iv));
+            match sevens(alloc, half_of(to, len)) {
+                Ok(plain) => sealed_digest(alloc, to, &key, &iv, &plain),
+                Err(_) => to.lacks_memory(),
+            }
+        }
         _ => to.is_no_row(),
     }
 }
@@ -69,7 +75,10 @@ fn sevens(alloc: Global, len: u32) -> Result<Vec<u8>, AllocError> {
 
 pub fn opened(alloc: Global, to: &mut Answer, args: &[Vec<u8>]) {
     match args {
-        [key, sealed] if key.len() == 32 => opening(to, open(alloc, &array_of(key), sealed)),
+        [key, sealed] => {
+            let key = array_of(to, key);
+            opening(to, open(alloc, &key, sealed));
+        }
         _ => to.is_no_row(),
     }
 }

@@ -11,8 +11,9 @@ use std::alloc::Global;
 pub fn signed(alloc: Global, to: &mut Answer, args: &[Vec<u8>]) {
     match args {
         [key, sid, salt, password] => {
-            let device = Gatekeeper::new(alloc, array_of(key));
-            to.digits(&device.sign(number_of(sid), number_of(salt), password));
+            let device = Gatekeeper::new(alloc, array_of(to, key));
+            let (sid, salt) = (number_of(to, sid), number_of(to, salt));
+            to.digits(&device.sign(sid, salt, password));
         }
         _ => to.is_no_row(),
     }
@@ -21,8 +22,8 @@ pub fn signed(alloc: Global, to: &mut Answer, args: &[Vec<u8>]) {
 /// A device with this key and no records, and a handle of zeros.
 pub fn gatekeeper(alloc: Global, to: &mut Answer, args: &[Vec<u8>]) {
     match args {
-        [key, asks @ ..] if key.len() == 32 => {
-            let mut device = Gatekeeper::new(alloc, array_of(key));
+        [key, asks @ ..] => {
+            let mut device = Gatekeeper::new(alloc, array_of(to, key));
             let mut handle = [0; 49];
             for ask in asks.chunks(3) {
                 asked(alloc, to, &mut device, &mut handle, ask);
@@ -43,11 +44,17 @@ fn asked(
 ) {
     match ask {
         [name, one, other] => match word_of(name) {
-            "verify" => verified(to, device.verify(handle, one, number_of(other))),
-            "enroll" => to.done(enroll(device, number_of(one))),
-            "forget" => device.forget(number_of(one)),
-            "sign" => *handle = device.sign(number_of(one), 3, other),
-            "turn" => turn(to, handle, byte_of(one), byte_of(other)),
+            "verify" => {
+                let moment = number_of(to, other);
+                verified(to, device.verify(handle, one, moment));
+            }
+            "enroll" => {
+                let sid = number_of(to, one);
+                to.done(enroll(device, sid));
+            }
+            "forget" => device.forget(number_of(to, one)),
+            "sign" => *handle = device.sign(number_of(to, one), 3, other),
+            "turn" => turn(to, handle, one, other),
             "copy" => to.done(copy(alloc, device)),
             _ => to.is_no_row(),
         },
@@ -68,7 +75,8 @@ fn copy(alloc: Global, device: &mut Gatekeeper) -> Result<(), Memory> {
     Ok(())
 }
 
-fn turn(to: &mut Answer, handle: &mut [u8; 49], at: u8, bits: u8) {
+fn turn(to: &mut Answer, handle: &mut [u8; 49], at: &[u8], bits: &[u8]) {
+    let (at, bits) = (byte_of(to, at), byte_of(to, bits));
     match handle.get_mut(usize::from(at)) {
         Some(byte) => *byte ^= bits,
         None => to.is_no_row(),

@@ -55,7 +55,7 @@ pub fn personalised_pair(to: &mut Answer, args: &[Vec<u8>]) {
 pub fn pbkdf2(alloc: Global, to: &mut Answer, args: &[Vec<u8>]) {
     match args {
         [password, salt, len] => {
-            let len = half_of(len);
+            let len = half_of(to, len);
             if 1 <= len && len <= 16_384 {
                 to.bytes(pbkdf2_once(alloc, password, salt, len));
             } else {

@@ -20,9 +20,9 @@ pub fn store(alloc: Global, to: &mut Answer, args: &[Vec<u8>]) {
 fn ask_store(alloc: Global, to: &mut Answer, store: &mut KeyStore, ask: &[Vec<u8>]) {
     match ask {
         [name, alias, bytes] => match word_of(name) {
-            "open" => opened(alloc, to, store, number_of(alias), bytes),
-            "put" if bytes.len() == 32 => to.done(put(store, number_of(alias), &array_of(bytes))),
-            "drop" => store.drop_key(number_of(alias)),
+            "open" => opened(alloc, to, store, alias, bytes),
+            "put" => put(to, store, alias, bytes),
+            "drop" => store.drop_key(number_of(to, alias)),
             "copy" => to.done(copy(alloc, store)),
             _ => to.is_no_row(),
         },
@@ -30,8 +30,8 @@ fn ask_store(alloc: Global, to: &mut Answer, store: &mut KeyStore, ask: &[Vec<u8
     }
 }
 
-fn opened(alloc: Global, to: &mut Answer, store: &KeyStore, alias: u64, sealed: &[u8]) {
-    match store.open(alloc, alias, sealed) {
+fn opened(alloc: Global, to: &mut Answer, store: &KeyStore, alias: &[u8], sealed: &[u8]) {
+    match store.open(alloc, number_of(to, alias), sealed) {
         Ok(text) => to.digits(text.as_slice()),
         Err(KeyFault::NoKey) => to.word("no-key"),
         Err(KeyFault::Tag) => to.word("tag"),
@@ -39,10 +39,13 @@ fn opened(alloc: Global, to: &mut Answer, store: &KeyStore, alias: u64, sealed: 
     }
 }
 
-fn put(store: &mut KeyStore, alias: u64, key: &[u8; 32]) -> Result<(), Memory> {
-    store.reserve(1)?;
-    store.put(alias, key);
-    Ok(())
+fn put(to: &mut Answer, store: &mut KeyStore, alias: &[u8], key: &[u8]) {
+    let alias = number_of(to, alias);
+    let key = array_of(to, key);
+    match store.reserve(1) {
+        Ok(()) => store.put(alias, &key),
+        Err(_) => to.lacks_memory(),
+    }
 }
 
 fn copy(alloc: Global, store: &mut KeyStore) -> Result<(), Memory> {
@@ -54,7 +57,7 @@ fn copy(alloc: Global, store: &mut KeyStore) -> Result<(), Memory> {
 pub fn cell(to: &mut Answer, args: &[Vec<u8>]) {
     match args {
         [key, asks @ ..] => {
-            let mut cell = cell_of(key);
+            let mut cell = cell_of(to, key);
             for ask in asks.chunks(3) {
                 ask_cell(to, &mut cell, ask);
             }
@@ -63,10 +66,10 @@ pub fn cell(to: &mut Answer, args: &[Vec<u8>]) {
     }
 }
 
-fn cell_of(key: &[u8]) -> ResumeCell {
+fn cell_of(to: &mut Answer, key: &[u8]) -> ResumeCell {
     match key {
         [] => ResumeCell::new(),
-        key => ResumeCell::of(Some(array_of(key))),
+        key => ResumeCell::of(Some(array_of(to, key))),
     }
 }
 
@@ -75,7 +78,7 @@ fn ask_cell(to: &mut Answer, cell: &mut ResumeCell, ask: &[Vec<u8>]) {
         [name, key, _] => match word_of(name) {
             "get" => seen(to, cell.get()),
             "take" => seen(to, cell.take()),
-            "store" => cell.store(&array_of(key)),
+            "store" => cell.store(&array_of(to, key)),
             _ => to.is_no_row(),
         },
         _ => to.is_no_row(),

@@ -5,7 +5,8 @@
 //!
 //! An argument is bytes: hex digits, or `'` and a text in which `_` is a space, or `-` for none; with
 //! `*` and a number so many times, and with `+` between them one behind another. `03%72` is 72 bytes
-//! from 03 on, each 7 more than the one before. A number is at most eight bytes, the highest first.
+//! from 03 on, each 7 more than the one before. A number is one to eight bytes, the highest first. Where
+//! an argument has another length than the function takes, the answer is `wrong length`.
 //!
 //! A row of a device has what it begins with, and then what it is asked in turn, in three words each:
 //! a name and two arguments. The answer has those of the asks that have one.
@@ -19,6 +20,7 @@ mod handles;
 mod hashes;
 mod keys;
 mod protectors;
+mod retiring;
 mod secrets;
 mod slots;
 mod tables;
@@ -91,6 +93,7 @@ fn answer_to(alloc: Global, to: &mut Answer, name: &str, args: &[Vec<u8>]) {
         "open-under" => blobs::opened(alloc, to, args),
         "spblob" => blobs::parsed(alloc, to, args),
         "create" => secrets::created(alloc, to, args),
+        "join" => secrets::joined(alloc, to, args),
         "subkeys" => secrets::subkeys(alloc, to, args),
         "e0" => secrets::sealed_half(alloc, to, args),
         "open-e0" => secrets::opened_half(alloc, to, args),
@@ -139,6 +142,11 @@ fn answer_of_seals(alloc: Global, to: &mut Answer, name: &str, args: &[Vec<u8>])
         "default-layered" => chain::sealed(alloc, to, args),
         "credential-plan" => chain::credential_weight(alloc, to, args),
         "token-plan" => chain::token_weight(alloc, to, args),
+        "erase-plan" => retiring::erased(alloc, to, args),
+        "erase-twice-plan" => retiring::erased_twice(alloc, to, args),
+        "remove-plan" => retiring::removed(alloc, to, args),
+        "put-own-plans" => retiring::own_put(alloc, to, args),
+        "remove-own-plan" => retiring::own_removed(alloc, to, args),
         "seals" => protectors::decided(alloc, to, args),
         "seals-token" => protectors::token_decided(alloc, to, args),
         "held-slot" => protectors::slot(alloc, to, args),

@@ -23,7 +23,7 @@ use std::alloc::Global;
 pub fn decided(alloc: Global, to: &mut Answer, args: &[Vec<u8>]) {
     match args {
         [kind, text, version, sp, parts @ ..] => {
-            match secret_of(alloc, byte_of(version), sp) {
+            match secret_of(alloc, byte_of(to, version), sp) {
                 Ok(secret) => for_credential(alloc, to, kind, text, &secret, parts),
                 Err(fault) => to.fails(fault),
             }
@@ -53,7 +53,7 @@ fn with_parts(
     secret: &Secret,
     parts: &[Vec<u8>],
 ) {
-    match held_of(alloc, parts) {
+    match held_of(alloc, to, parts) {
         Ok(held) => {
             decision(to, seals(alloc, 2, &held, credential, secret));
             decision(to, shows_metrics(alloc, &held, credential, secret));
@@ -74,7 +74,7 @@ fn decision(to: &mut Answer, decided: Result<bool, Memory>) {
 pub fn token_decided(alloc: Global, to: &mut Answer, args: &[Vec<u8>]) {
     match args {
         [token, version, sp, p0, p1, parts @ ..] => {
-            match secret_of(alloc, byte_of(version), sp) {
+            match secret_of(alloc, byte_of(to, version), sp) {
                 Ok(secret) => match file_of(alloc, p1) {
                     Ok(p1) => for_token(alloc, to, token, &secret, p0, &p1, parts),
                     Err(_) => to.lacks_memory(),
@@ -95,7 +95,7 @@ fn for_token(
     p1: &Option<Bytes>,
     parts: &[Vec<u8>],
 ) {
-    match held_of(alloc, parts) {
+    match held_of(alloc, to, parts) {
         Ok(held) => decision(to, seals_token(alloc, &held, p1, token, secret, p0)),
         Err(fault) => to.fails(fault),
     }
@@ -110,40 +110,32 @@ fn credential_in(alloc: Global, kind: &[u8], text: &[u8]) -> Result<Credential, 
     }
 }
 
-fn held_of(alloc: Global, parts: &[Vec<u8>]) -> Result<HeldParts, RowFault> {
+fn held_of(alloc: Global, to: &mut Answer, parts: &[Vec<u8>]) -> Result<HeldParts, RowFault> {
     match parts {
-        [files @ .., slot, counter, device, key]
-            if is_none_or(slot, 36)
-                && is_none_or(counter, 12)
-                && device.len() == 32
-                && key.len() == 32 => match files_of(alloc, files) {
-            Ok(files) => Ok(held_with(files, slot, counter, array_of(device), array_of(key))),
+        [files @ .., slot, counter, device, key] => match files_of(alloc, files) {
+            Ok(files) => Ok(held_with(to, files, slot, counter, device, key)),
             Err(fault) => Err(fault),
         },
         _ => Err(RowFault::Form),
     }
 }
 
-/// Whether these are so many bytes, or none.
-fn is_none_or(bytes: &[u8], len: usize) -> bool {
-    bytes.is_empty() || bytes.len() == len
-}
-
 fn held_with(
+    to: &mut Answer,
     files: PartFiles,
     slot: &[u8],
     counter: &[u8],
-    device: [u8; 32],
-    key: [u8; 32],
+    device: &[u8],
+    key: &[u8],
 ) -> HeldParts {
-    let slot = held_slot_of(slot);
+    let slot = held_slot_of(to, slot);
     HeldParts {
         weaver: slot.is_some(),
         files,
         slot,
-        counter: counter_of(counter),
-        device,
-        key: Some(key),
+        counter: counter_of(to, counter),
+        device: array_of(to, device),
+        key: Some(array_of(to, key)),
     }
 }
 
@@ -195,21 +187,24 @@ fn file_of(alloc: Global, bytes: &[u8]) -> Result<Option<Bytes>, Memory> {
     Ok(Some(Bytes::of(alloc, bytes)?))
 }
 
-/// The slot of these bytes, with no rest.
-fn held_slot_of(bytes: &[u8]) -> Option<Slot> {
-    if bytes.len() != 36 {
+/// The slot of these 36 bytes, with no rest; none where there are none.
+fn held_slot_of(to: &mut Answer, bytes: &[u8]) -> Option<Slot> {
+    if bytes.is_empty() {
         return None;
     }
-    Some(slot_of(&bytes[..16], &bytes[16..32], half_of(&bytes[32..])))
+    let bytes: [u8; 36] = array_of(to, bytes);
+    Some(slot_of(to, &bytes[..16], &bytes[16..32], &bytes[32..]))
 }
 
-fn counter_of(bytes: &[u8]) -> Option<Counter> {
-    if bytes.len() != 12 {
+/// The counter of these 12 bytes; none where there are none.
+fn counter_of(to: &mut Answer, bytes: &[u8]) -> Option<Counter> {
+    if bytes.is_empty() {
         return None;
     }
+    let bytes: [u8; 12] = array_of(to, bytes);
     Some(Counter {
-        fails: half_of(&bytes[..4]),
-        until: number_of(&bytes[4..]),
+        fails: half_of(to, &bytes[..4]),
+        until: number_of(to, &bytes[4..]),
     })
 }
 
@@ -219,11 +214,11 @@ pub fn slot(alloc: Global, to: &mut Answer, args: &[Vec<u8>]) {
     match args {
         [slots, name, content, user, id] => {
             let token = Protector {
-                user: half_of(user),
-                id: number_of(id),
+                user: half_of(to, user),
+                id: number_of(to, id),
                 purpose: Purpose::Token,
             };
-            match world_of(alloc, byte_of(slots), name, content) {
+            match world_of(alloc, byte_of(to, slots), name, content) {
                 Ok(world) => held_slot(alloc, to, &world, &token),
                 Err(fault) => to.fails(fault),
             }

@@ -8,7 +8,10 @@ use std::alloc::Global;
 /// The rest after so many failures, in milliseconds.
 pub fn rest(to: &mut Answer, args: &[Vec<u8>]) {
     match args {
-        [fails] => to.number(timeout(half_of(fails))),
+        [fails] => {
+            let fails = half_of(to, fails);
+            to.number(timeout(fails));
+        }
         _ => to.is_no_row(),
     }
 }
@@ -17,7 +20,7 @@ pub fn rest(to: &mut Answer, args: &[Vec<u8>]) {
 pub fn slot(to: &mut Answer, args: &[Vec<u8>]) {
     match args {
         [key, value, fails, asks @ ..] => {
-            let mut slot = slot_of(key, value, half_of(fails));
+            let mut slot = slot_of(to, key, value, fails);
             for ask in asks.chunks(3) {
                 ask_slot(to, &mut slot, ask);
             }
@@ -27,11 +30,11 @@ pub fn slot(to: &mut Answer, args: &[Vec<u8>]) {
 }
 
 /// A slot that doesn't rest.
-pub fn slot_of(key: &[u8], value: &[u8], fails: u32) -> Slot {
+pub fn slot_of(to: &mut Answer, key: &[u8], value: &[u8], fails: &[u8]) -> Slot {
     Slot {
-        key: array_of(key),
-        value: array_of(value),
-        fails,
+        key: array_of(to, key),
+        value: array_of(to, value),
+        fails: half_of(to, fails),
         until: 0,
     }
 }
@@ -39,7 +42,10 @@ pub fn slot_of(key: &[u8], value: &[u8], fails: u32) -> Slot {
 fn ask_slot(to: &mut Answer, slot: &mut Slot, ask: &[Vec<u8>]) {
     match ask {
         [name, key, moment] => match word_of(name) {
-            "read" if key.len() == 16 => seen(to, slot.read(&array_of(key), number_of(moment))),
+            "read" => {
+                let (key, moment) = (array_of(to, key), number_of(to, moment));
+                seen(to, slot.read(&key, moment));
+            }
             "until" => to.number(slot.until),
             _ => to.is_no_row(),
         },
@@ -58,7 +64,7 @@ fn seen(to: &mut Answer, read: SlotRead) {
 /// So many slots, at most 256, each blank at first.
 pub fn weaver(alloc: Global, to: &mut Answer, args: &[Vec<u8>]) {
     match args {
-        [len, asks @ ..] => match Weaver::new(alloc, half_of(len)) {
+        [len, asks @ ..] => match Weaver::new(alloc, half_of(to, len)) {
             Ok(mut weaver) => {
                 for ask in asks.chunks(3) {
                     ask_weaver(alloc, to, &mut weaver, ask);
@@ -74,8 +80,8 @@ pub fn weaver(alloc: Global, to: &mut Answer, args: &[Vec<u8>]) {
 fn ask_weaver(alloc: Global, to: &mut Answer, weaver: &mut Weaver, ask: &[Vec<u8>]) {
     match ask {
         [name, slot, bytes] => match word_of(name) {
-            "write" => write(to, weaver, half_of(slot), bytes),
-            "read" => read(to, weaver, half_of(slot), bytes),
+            "write" => write(to, weaver, slot, bytes),
+            "read" => read(to, weaver, slot, bytes),
             "push" => to.done(weaver.push(Slot::blank())),
             "copied-len" => copied_len(alloc, to, weaver),
             _ => to.is_no_row(),
@@ -91,17 +97,21 @@ fn copied_len(alloc: Global, to: &mut Answer, weaver: &Weaver) {
     }
 }
 
-fn write(to: &mut Answer, weaver: &mut Weaver, slot: u32, bytes: &[u8]) {
-    if slot < weaver.len() && bytes.len() == 32 {
-        weaver.write(slot, &array_of(&bytes[..16]), &array_of(&bytes[16..]));
+fn write(to: &mut Answer, weaver: &mut Weaver, slot: &[u8], bytes: &[u8]) {
+    let slot = half_of(to, slot);
+    let bytes: [u8; 32] = array_of(to, bytes);
+    if slot < weaver.len() {
+        let (key, value) = (array_of(to, &bytes[..16]), array_of(to, &bytes[16..]));
+        weaver.write(slot, &key, &value);
     } else {
         to.is_no_row();
     }
 }
 
-fn read(to: &mut Answer, weaver: &mut Weaver, slot: u32, key: &[u8]) {
-    if slot < weaver.len() && key.len() == 16 {
-        seen(to, weaver.read(slot, &array_of(key), 0));
+fn read(to: &mut Answer, weaver: &mut Weaver, slot: &[u8], key: &[u8]) {
+    let (slot, key) = (half_of(to, slot), array_of(to, key));
+    if slot < weaver.len() {
+        seen(to, weaver.read(slot, &key, 0));
     } else {
         to.is_no_row();
     }

@@ -36,7 +36,7 @@ fn ask_plan(alloc: Global, to: &mut Answer, plan: &mut Plan, ask: &[Vec<u8>]) {
                 let (actions, bytes) = plan.weight();
                 to.pair(u64::from(actions), bytes);
             }
-            "make" => make(alloc, to, plan, one, half_of(other)),
+            "make" => make(alloc, to, plan, one, other),
             "sync" => to.done(plan.push(Action::Sync)),
             "say" => to.done(say(alloc, plan, one)),
             "append" => to.done(append(alloc, plan, one)),
@@ -46,7 +46,8 @@ fn ask_plan(alloc: Global, to: &mut Answer, plan: &mut Plan, ask: &[Vec<u8>]) {
     }
 }
 
-fn make(alloc: Global, to: &mut Answer, plan: &mut Plan, name: &[u8], len: u32) {
+fn make(alloc: Global, to: &mut Answer, plan: &mut Plan, name: &[u8], len: &[u8]) {
+    let len = half_of(to, len);
     match name_of(alloc, name) {
         Ok(name) => to.done(plan.push(Action::Make { name, len })),
         Err(fault) => to.fails(fault),
@@ -69,7 +70,7 @@ fn append(alloc: Global, plan: &mut Plan, text: &[u8]) -> Result<(), Memory> {
 /// A blank world with so many slots.
 pub fn world(alloc: Global, to: &mut Answer, args: &[Vec<u8>]) {
     match args {
-        [slots, asks @ ..] => match World::blank(alloc, u32::from(byte_of(slots))) {
+        [slots, asks @ ..] => match World::blank(alloc, u32::from(byte_of(to, slots))) {
             Ok(mut world) => ask_all(alloc, to, &mut world, asks),
             Err(_) => to.lacks_memory(),
         },
@@ -139,11 +140,17 @@ pub fn ids(alloc: Global, to: &mut Answer, args: &[Vec<u8>]) {
 fn ask_ids(alloc: Global, to: &mut Answer, table: &mut IdTable<u32>, ask: &[Vec<u8>]) {
     match ask {
         [name, id, value] => match word_of(name) {
-            "get" => row(to, table.get(half_of(id))),
-            "find" => found(to, table.find(number_of(id))),
-            "put" => to.done(put_id(table, number_of(id), half_of(value))),
-            "set" => set(to, table, number_of(id), half_of(value)),
-            "remove" => table.remove(number_of(id)),
+            "get" => {
+                let at = half_of(to, id);
+                row(to, table.get(at));
+            }
+            "find" => {
+                let id = number_of(to, id);
+                found(to, table.find(id));
+            }
+            "put" => put_id(to, table, id, value),
+            "set" => set(to, table, id, value),
+            "remove" => table.remove(number_of(to, id)),
             "copy" => to.done(copy_ids(alloc, table)),
             _ => to.is_no_row(),
         },
@@ -165,13 +172,16 @@ fn found(to: &mut Answer, value: Option<u32>) {
     }
 }
 
-fn put_id(table: &mut IdTable<u32>, id: u64, value: u32) -> Result<(), Memory> {
-    table.reserve(1)?;
-    table.put(id, value);
-    Ok(())
+fn put_id(to: &mut Answer, table: &mut IdTable<u32>, id: &[u8], value: &[u8]) {
+    let (id, value) = (number_of(to, id), half_of(to, value));
+    match table.reserve(1) {
+        Ok(()) => table.put(id, value),
+        Err(_) => to.lacks_memory(),
+    }
 }
 
-fn set(to: &mut Answer, table: &mut IdTable<u32>, id: u64, value: u32) {
+fn set(to: &mut Answer, table: &mut IdTable<u32>, id: &[u8], value: &[u8]) {
+    let (id, value) = (number_of(to, id), half_of(to, value));
     match table.find(id) {
         Some(_) => table.set(id, value),
         None => to.is_no_row(),
@@ -189,8 +199,8 @@ fn copy_ids(alloc: Global, table: &mut IdTable<u32>) -> Result<(), Memory> {
 pub fn pushed_key(alloc: Global, to: &mut Answer, args: &[Vec<u8>]) {
     match args {
         [alias, key] => {
-            let alias = number_of(alias);
-            match copied_key(alloc, alias, array_of(key)) {
+            let (alias, key) = (number_of(to, alias), array_of(to, key));
+            match copied_key(alloc, alias, key) {
                 Ok(keys) => key_in(to, &keys, alias),
                 Err(_) => to.lacks_memory(),
             }
@@ -220,9 +230,9 @@ fn key_in(to: &mut Answer, keys: &KeyTable, alias: u64) {
 pub fn pushed_record(alloc: Global, to: &mut Answer, args: &[Vec<u8>]) {
     match args {
         [sid, fails, until] => {
-            let sid = number_of(sid);
-            let fails = half_of(fails);
-            let until = number_of(until);
+            let sid = number_of(to, sid);
+            let fails = half_of(to, fails);
+            let until = number_of(to, until);
             match copied_record(alloc, GkRow { sid, fails, until }) {
                 Ok(records) => record_in(to, &records, sid),
                 Err(_) => to.lacks_memory(),

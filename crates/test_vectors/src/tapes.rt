@@ -7,16 +7,16 @@ use std::alloc::{AllocError, Global};
 
 /// The next moment, how many are taken, and those after it.
 pub fn moments(alloc: Global, to: &mut Answer, args: &[Vec<u8>]) {
-    match moments_of(alloc, args) {
+    match moments_of(alloc, to, args) {
         Ok(moments) => taken(to, &moments),
         Err(_) => to.lacks_memory(),
     }
 }
 
-fn moments_of(alloc: Global, args: &[Vec<u8>]) -> Result<Vec<u64>, AllocError> {
+fn moments_of(alloc: Global, to: &mut Answer, args: &[Vec<u8>]) -> Result<Vec<u64>, AllocError> {
     let mut moments = Vec::new(alloc);
     for moment in args {
-        moments.push(number_of(moment))?;
+        moments.push(number_of(to, moment))?;
     }
     Ok(moments)
 }
@@ -33,7 +33,7 @@ fn taken(to: &mut Answer, moments: &[u64]) {
 pub fn noise(alloc: Global, to: &mut Answer, args: &[Vec<u8>]) {
     match args {
         [noise, len] => {
-            let len = half_of(len) as usize;
+            let len = half_of(to, len) as usize;
             to.bytes(drawn(alloc, noise, len));
             to.digits(later_noise(noise, len));
         }

@@ -1,6 +1,6 @@
 //! The arguments of a row.
 
-use crate::answer::RowFault;
+use crate::answer::{Answer, RowFault};
 use hex::FromHexError;
 use std::alloc::{AllocError, Global};
 
@@ -43,7 +43,11 @@ fn put_times(alloc: Global, bytes: &mut Vec<u8>, unit: &str, times: u16) -> Resu
 
 /// So many bytes, each 7 more than the one before, modulo 256.
 fn put_sevens(alloc: Global, bytes: &mut Vec<u8>, first: &str, len: u16) -> Result<(), RowFault> {
-    let mut next = byte_of(&unit_of(alloc, first)?);
+    let unit = unit_of(alloc, first)?;
+    let [first] = unit.as_slice() else {
+        return Err(RowFault::Length);
+    };
+    let mut next = *first;
     for _ in 0..len {
         if bytes.push(next).is_err() {
             return Err(RowFault::Memory);
@@ -79,8 +83,11 @@ fn spaced(alloc: Global, text: &str) -> Result<Vec<u8>, AllocError> {
     Ok(bytes)
 }
 
-/// So many bytes: those behind them are left out, and zeros follow where there are fewer.
-pub fn array_of<const N: usize>(bytes: &[u8]) -> [u8; N] {
+/// Just so many bytes.
+pub fn array_of<const N: usize>(to: &mut Answer, bytes: &[u8]) -> [u8; N] {
+    if bytes.len() != N {
+        to.fails(RowFault::Length);
+    }
     let mut array = [0; N];
     for (to, from) in array.iter_mut().zip(bytes) {
         *to = *from;
@@ -88,8 +95,11 @@ pub fn array_of<const N: usize>(bytes: &[u8]) -> [u8; N] {
     array
 }
 
-/// The number of these bytes, the highest first. Of more than eight the last eight count.
-pub fn number_of(bytes: &[u8]) -> u64 {
+/// The number of these bytes, the highest first, of which there are one to `most`.
+fn read_number(to: &mut Answer, bytes: &[u8], most: usize) -> u64 {
+    if bytes.is_empty() || bytes.len() > most {
+        to.fails(RowFault::Length);
+    }
     let mut number: u64 = 0;
     for byte in bytes {
         number = number << 8 | u64::from(*byte);
@@ -97,17 +107,19 @@ pub fn number_of(bytes: &[u8]) -> u64 {
     number
 }
 
-/// The number of the last four bytes.
-pub fn half_of(bytes: &[u8]) -> u32 {
-    (number_of(bytes) % 0x1_0000_0000) as u32
+/// The number of one to eight bytes.
+pub fn number_of(to: &mut Answer, bytes: &[u8]) -> u64 {
+    read_number(to, bytes, 8)
 }
 
-/// The last byte, 0 where there is none.
-pub fn byte_of(bytes: &[u8]) -> u8 {
-    match bytes {
-        [.., byte] => *byte,
-        [] => 0,
-    }
+/// The number of one to four bytes.
+pub fn half_of(to: &mut Answer, bytes: &[u8]) -> u32 {
+    (read_number(to, bytes, 4) % 0x1_0000_0000) as u32
+}
+
+/// The number of one byte.
+pub fn byte_of(to: &mut Answer, bytes: &[u8]) -> u8 {
+    (read_number(to, bytes, 1) % 0x100) as u8
 }
 
 /// The word that these bytes are.
