@@ -85,7 +85,6 @@ pub record Opens (old : Sight) (boot : ℕ) (result : Result Session OpenRefusal
       → IfOk result (λ x. Agrees new.world x (opened_state old.world s boot v))
   -- Nothing is left that the record doesn't name, whatever the world stands for.
   pub bare : IsTrue old.told → IfOk result (λ x. IsBare old.world new.world x.settings.settled.rec [])
-  -- A crash leaves the vault: at every moment where no file was touched at the start, and else from the
-  -- sync on.
+  -- From the sync on a crash leaves the vault. Before it there is no call.
   pub crash : IsTrue old.told → (s : Settled) (v : Vault) → StandsBy old.world s v
       → LeavesOnlySettled old new (λ image. StandsDurably image s v)
