@@ -18,7 +18,7 @@ use Rattle.ls_board.proofs.RunLemmas.{after_all-append, apply_rest, sound_rest, 
 
 -- ---- what was done
 
-past_of-append : (w : World) (first second : List Action) (past : List (World × Option Action))
+pub past_of-append : (w : World) (first second : List Action) (past : List (World × Option Action))
     → past_of w (first ++ second) past ≡ past_of (after_all w first) second (past_of w first past)
 past_of-append w [] second past = refl
 past_of-append w (x ∷ first) second past = past_of-append (after w x 0) first second ((w, changing x) ∷ past)

@@ -1,6 +1,7 @@
 pub mod CallLemmas
 pub mod CountLemmas
 pub mod CrashLemmas
+pub mod FailLemmas
 pub mod FileLemmas
 pub mod FrameLemmas
 pub mod ImageLemmas
@@ -8,6 +9,7 @@ pub mod KeyLemmas
 pub mod ListLemmas
 pub mod LookupLemmas
 pub mod PutLemmas
+pub mod ReachLemmas
 pub mod RestLemmas
 pub mod RunLemmas
 pub mod StepLemmas

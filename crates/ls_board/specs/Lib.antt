@@ -1,4 +1,5 @@
 pub mod Acts
+pub mod Calls
 pub mod Effect
 pub mod Gatekeeper
 pub mod Images

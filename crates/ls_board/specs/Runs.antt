@@ -69,6 +69,14 @@ pub record FailedAfter (old : Sight) (done : List Action) (a : Action) (part : P
   pub past : IsTrue old.told
       → new.past ≡ (after_all old.world done, changing a) ∷ past_of old.world done old.past
 
+-- One action of a plan failed, and all before it were done whole.
+pub record FailedIn (old : Sight) (plan : List Action) (part : Part) (new : Sight) : Type 0 where
+  pub done : List Action
+  pub failing : Action
+  pub left : List Action
+  pub splits : plan ≡ done ++ failing ∷ left
+  pub failed : FailedAfter old done failing part new
+
 -- ---- images of a run
 
 -- each image of these calls, between two or within one, has P

@@ -1,7 +1,7 @@
 //! Carrying out a change of the vault.
 ghost use Rattle.std.specs.Prelude.{◌≡◌, ◌⊎◌, take, slice_get, IsTrue, IsSomeAnd, IfOk, IfErr, OnOk, OnErr};
 ghost use Rattle.ls_board.specs.Acts.{Sight};
-ghost use Rattle.ls_board.specs.Runs.{CanRun, Did, FailedAfter, PlanImage, LeavesOnly};
+ghost use Rattle.ls_board.specs.Runs.{CanRun, Did, FailedAfter, FailedIn, PlanImage, LeavesOnly};
 ghost use Rattle.ls_board.specs.Keeping.{Keeps};
 ghost use Rattle.ls_board.specs.Rest.{SameRest};
 ghost use Rattle.ls_settings.specs.Loaded.{IsReady};
@@ -46,6 +46,9 @@ pub fn carry_out<B: Board>(
     ensures becomes { OnOk result (settings.new ≡ work.commit.to) }
     ensures either { OnErr result ((settings.new ≡ settings.old) ⊎ (settings.new ≡ work.commit.to)) }
     ensures did { OnOk result (Did (B.sight board.old) (actions_of work) (B.sight board.new)) }
+    // After a fault all before one of its actions was done, and this one failed.
+    ensures failed { IfErr result (λ part.
+        FailedIn (B.sight board.old) (actions_of work) part (B.sight board.new)) }
     // A fault comes only where a count rose.
     ensures keeps { Keeps (λ part. part) (B.sight board.old) (B.sight board.new) result }
     // Whatever it answers, nothing was said, heard or drawn, no moment was taken, and there are as

@@ -6,8 +6,9 @@ use Rattle.ls_board.specs.Acts.{Sight}
 use Rattle.ls_board.specs.Keeping.{Keeps}
 use Rattle.ls_board.specs.Reach.{SameBut}
 use Rattle.ls_board.specs.Rest.{SameRest}
-use Rattle.ls_board.specs.Runs.{CanRun, Did, LeavesOnly}
+use Rattle.ls_board.specs.Runs.{CanRun, Did, FailedIn, LeavesOnly}
 use Rattle.ls_board.proofs.CallLemmas.{still_told, did_both, keeps_behind}
+use Rattle.ls_board.proofs.FailLemmas.{failed_front, failed_behind}
 use Rattle.ls_board.proofs.RestLemmas.{rest_trans}
 use Rattle.ls_settings.specs.declared.plan.Committed.{Committed}
 use Rattle.ls_settings.specs.Commits.{IsCommitImage}
@@ -68,6 +69,9 @@ module _ (s0 : Sight) (s : Loaded) (x : Exchanged) (quiet : IsTrue s0.told → I
     pub unbuilt_keeps : Kept (Err part) s1
     unbuilt_keeps = keeps_err {T = Unit {0}} {U = Committed} s0 s1 part runs.keeps
 
+    pub unbuilt_failed : FailedIn s0 (actions_of k) part s1
+    unbuilt_failed = failed_front s0 s1 k.before (k.commit.actions ++ k.after) part runs.failed
+
     pub unbuilt_cut : Cut s1
     unbuilt_cut = first_cut s0 s k quiet s1 runs.crash
 
@@ -91,6 +95,10 @@ module _ (s0 : Sight) (s : Loaded) (x : Exchanged) (quiet : IsTrue s0.told → I
 
     pub tried_keeps : (s2 : Sight) (part : Part) → Keeps {T = Committed} {E = Part} (λ part. part) s1 s2 (Err part) → Kept (Err part) s2
     tried_keeps s2 part keeps = keeps_behind {T = Committed} {E = Part} {fault = λ part. part} s0 s1 s2 k.before (Err part) built.did keeps
+
+    pub tried_failed : (s2 : Sight) (part : Part) → FailedIn s1 k.commit.actions part s2 → FailedIn s0 (actions_of k) part s2
+    tried_failed s2 part failed =
+        failed_behind s0 s1 s2 k.before (k.commit.actions ++ k.after) part built.did (failed_front s1 s2 k.commit.actions k.after part failed)
 
     module _ (s2 : Sight) (made : Made s1 s2 s x) where
       pub can_clear : HasRoom s0 k → CanRun s2 k.after
@@ -117,6 +125,10 @@ module _ (s0 : Sight) (s : Loaded) (x : Exchanged) (quiet : IsTrue s0.told → I
       last_broken s3 part runs =
           keeps_behind {T = Committed} {E = Part} {fault = λ part. part} s0 s2 s3 (k.before ++ k.commit.actions) (Err part) did_then
           (keeps_err {T = Unit {0}} {U = Committed} s2 s3 part runs.keeps)
+
+      pub last_failed : (s3 : Sight) (part : Part) → Runs {T = Unit {0}} s2 k.after (Err part) s3 → FailedIn s0 (actions_of k) part s3
+      last_failed s3 part runs =
+          failed_behind s0 s1 s3 k.before (k.commit.actions ++ k.after) part built.did (failed_behind s1 s2 s3 k.commit.actions k.after part made.did runs.failed)
 
       -- it was done
       module _ (s3 : Sight) (runs : Runs {T = Unit {0}} s2 k.after (Ok tt) s3) where

@@ -1,6 +1,6 @@
 -- Actions in a row, up to one that fails: a call's, a plan's, and two lists of them.
 use Rattle.std.proofs.Common.{◌≡◌, ◌<◌, ℕ, Option, None, Some, IsTrue, IsSomeAnd, List, [], ◌∷◌, ◌++◌, take, slice_get, sym, subst}
-use Rattle.std.specs.Prelude.{IfSome, Result, Ok, Err, OnOk}
+use Rattle.std.specs.Prelude.{IfSome, Result, Ok, Err, IfErr, OnOk}
 use Rattle.std.specs.List.{flat_map}
 use Rattle.ls_board.specs.declared.action.Action.{Action}
 use Rattle.ls_board.specs.declared.action.Action.TheVariants.{KeyDrop}
@@ -10,8 +10,9 @@ use Rattle.ls_board.specs.Acts.{Sight}
 use Rattle.ls_board.specs.Keeping.{Keeps}
 use Rattle.ls_board.specs.Reach.{Reach, AllTouchOnly, SameBut}
 use Rattle.ls_board.specs.Rest.{SameRest}
-use Rattle.ls_board.specs.Runs.{AllSound, CanRun, Did, FailedAfter, LeavesOnly, PlanImage}
+use Rattle.ls_board.specs.Runs.{AllSound, CanRun, Did, FailedAfter, FailedIn, LeavesOnly, PlanImage}
 use Rattle.ls_board.proofs.CallLemmas.{still_told, was_told, did_both, can_front, can_rest, keeps_behind, front_crash, next_crash}
+use Rattle.ls_board.proofs.FailLemmas.{failed_at, failed_front, failed_behind}
 use Rattle.ls_board.proofs.FrameLemmas.{plan_same}
 use Rattle.ls_board.proofs.RestLemmas.{rest_refl, rest_trans, but_rest}
 use Rattle.ls_settings.proofs.RunningLemmas.{failed_same}
@@ -27,6 +28,7 @@ use Rattle.ls_exchange.specs.Turns.{Runs, AreClearInTurn, storage}
 runs_none : (s : Sight) → Runs {T = Unit {0}} s [] (Ok tt) s
 runs_none s = record {
   did = (steps_none s).did;
+  failed = tt;
   keeps = (steps_none s).keeps;
   rest = λ told. rest_refl s.world;
   crash = (steps_none s).crash;
@@ -38,14 +40,16 @@ module _ (old new : Sight) (plan : List Action) (reach : Reach) (but : IsTrue ol
   pub call_ran : {T : Type 0} (t : T) → Did old plan new → Keeps {T = T} {E = Part} (λ part. part) old new (Ok t) → Runs {T = Unit {0}} old plan (Ok tt) new
   call_ran {T} t did keeps = record {
     did = did;
+    failed = tt;
     keeps = keeps_ok {T = T} {U = Unit {0}} t tt old new keeps;
     rest = λ told. but_rest reach old.world new.world (but told);
     crash = crash;
   }
 
-  pub call_broke : {T : Type 0} (part : Part) → Keeps {T = T} {E = Part} (λ part. part) old new (Err part) → Runs {T = Unit {0}} old plan (Err part) new
-  call_broke {T} part keeps = record {
+  pub call_broke : {T : Type 0} (part : Part) → FailedIn old plan part new → Keeps {T = T} {E = Part} (λ part. part) old new (Err part) → Runs {T = Unit {0}} old plan (Err part) new
+  call_broke {T} part failed keeps = record {
     did = tt;
+    failed = failed;
     keeps = keeps_err {T = T} {U = Unit {0}} old new part keeps;
     rest = λ told. but_rest reach old.world new.world (but told);
     crash = crash;
@@ -57,6 +61,7 @@ module _ (old new : Sight) (plan : List Action) (stored : IsTrue old.told → Al
   pub plan_ran : Did old plan new → Runs {T = Unit {0}} old plan (Ok tt) new
   plan_ran did = record {
     did = did;
+    failed = tt;
     keeps = (steps_ran old new plan crash did).keeps;
     rest = λ told. subst (SameRest old.world) (sym (did.world told)) (but_rest storage old.world _ (plan_same storage old.world plan (stored told)));
     crash = crash;
@@ -65,6 +70,7 @@ module _ (old new : Sight) (plan : List Action) (stored : IsTrue old.told → Al
   pub plan_broke : (at : ℕ) (part : Part) → IsSomeAnd (slice_get plan at) (λ a. FailedAfter old (take at plan) a part new) → Runs {T = Unit {0}} old plan (Err part) new
   plan_broke at part failed = record {
     did = tt;
+    failed = failed_at old new plan at part failed;
     keeps = (steps_broke old new plan crash at part failed).keeps;
     rest = λ told. but_rest storage old.world new.world (failed_same storage old new plan (stored told) at part failed told);
     crash = crash;
@@ -73,12 +79,19 @@ module _ (old new : Sight) (plan : List Action) (stored : IsTrue old.told → Al
 -- ---- two lists in a row
 
 pub runs_front : (old new : Sight) (xs ys : List Action) (part : Part) → Runs {T = Unit {0}} old xs (Err part) new → Runs {T = Unit {0}} old (xs ++ ys) (Err part) new
-runs_front old new xs ys part runs = record { did = tt; keeps = runs.keeps; rest = runs.rest; crash = front_crash old new xs ys runs.crash }
+runs_front old new xs ys part runs = record {
+  did = tt;
+  failed = failed_front old new xs ys part runs.failed;
+  keeps = runs.keeps;
+  rest = runs.rest;
+  crash = front_crash old new xs ys runs.crash;
+}
 
 pub runs_behind : (s0 s1 s2 : Sight) (xs ys : List Action) (result : Result (Unit {0}) Part) → Runs {T = Unit {0}} s0 xs (Ok tt) s1 → Runs {T = Unit {0}} s1 ys result s2
     → Runs {T = Unit {0}} s0 (xs ++ ys) result s2
 runs_behind s0 s1 s2 xs ys result first second = record {
   did = both result second;
+  failed = broken result second;
   keeps = keeps_behind {T = Unit {0}} {E = Part} {fault = λ part. part} s0 s1 s2 xs result first.did second.keeps;
   rest = λ told. rest_trans s0.world s1.world s2.world (first.rest told) (second.rest (still_told s0 s1 xs first.did told));
   crash = next_crash s0 s1 s2 xs ys first.did first.crash second.crash;
@@ -87,6 +100,10 @@ runs_behind s0 s1 s2 xs ys result first second = record {
     both : (r : Result (Unit {0}) Part) → Runs {T = Unit {0}} s1 ys r s2 → OnOk r (Did s0 (xs ++ ys) s2)
     both (Ok t) then = did_both s0 s1 s2 xs ys first.did then.did
     both (Err part) then = tt
+
+    broken : (r : Result (Unit {0}) Part) → Runs {T = Unit {0}} s1 ys r s2 → IfErr r (λ part. FailedIn s0 (xs ++ ys) part s2)
+    broken (Ok t) then = tt
+    broken (Err part) then = failed_behind s0 s1 s2 xs ys part first.did then.failed
 
 -- ---- one behind another
 

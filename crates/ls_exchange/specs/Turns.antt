@@ -1,5 +1,5 @@
 -- Protectors that are dealt with one behind another.
-use Rattle.std.specs.Prelude.{IsTrue, List, [], ◌∷◌, Result, OnOk}
+use Rattle.std.specs.Prelude.{IsTrue, List, [], ◌∷◌, Result, IfErr, OnOk}
 use Rattle.ls_board.specs.declared.action.Action.{Action}
 use Rattle.ls_board.specs.declared.action.Part.{Part}
 use Rattle.ls_board.specs.declared.world.World.{World}
@@ -7,7 +7,7 @@ use Rattle.ls_board.specs.Acts.{Sight}
 use Rattle.ls_board.specs.Keeping.{Keeps}
 use Rattle.ls_board.specs.Reach.{Reach}
 use Rattle.ls_board.specs.Rest.{SameRest}
-use Rattle.ls_board.specs.Runs.{after_all, Did, LeavesOnly, PlanImage}
+use Rattle.ls_board.specs.Runs.{after_all, Did, FailedIn, LeavesOnly, PlanImage}
 use Rattle.ls_formats.specs.declared.parts.Parts.{Parts}
 use Rattle.ls_naming.specs.Current.{Settled}
 use Rattle.ls_protector.specs.Clear.{IsClear}
@@ -20,6 +20,7 @@ use Rattle.ls_vault.specs.declared.vault.Vault.{Vault}
 pub record Runs {T : Type 0} (old : Sight) (plan : List Action) (result : Result T Part)
     (new : Sight) : Type 0 where
   pub did : OnOk result (Did old plan new)
+  pub failed : IfErr result (λ part. FailedIn old plan part new)
   pub keeps : Keeps {T = T} {E = Part} (λ part. part) old new result
   pub rest : IsTrue old.told → SameRest old.world new.world
   pub crash : IsTrue old.told → LeavesOnly old new (PlanImage old.world plan)

@@ -6,6 +6,7 @@ mod clearing;
 mod laws;
 mod lists;
 mod others;
+mod places;
 mod running;
 mod staging;
 mod weight;

@@ -1,7 +1,7 @@
 //! Carrying out a change of the vault by protectors.
-ghost use Rattle.std.specs.Prelude.{◌≡◌, ◌⊎◌, ◌≤◌, ◌+◌, ◌++◌, IsTrue, IfOk, OnOk, OnErr, length, vec_len, vec_capacity};
+ghost use Rattle.std.specs.Prelude.{◌≡◌, ◌⊎◌, ◌≤◌, ◌+◌, ◌++◌, IsTrue, IfOk, IfErr, OnOk, OnErr, length, vec_len, vec_capacity};
 ghost use Rattle.ls_board.specs.Acts.{Sight};
-ghost use Rattle.ls_board.specs.Runs.{Did, LeavesOnly};
+ghost use Rattle.ls_board.specs.Runs.{Did, FailedIn, LeavesOnly};
 ghost use Rattle.ls_board.specs.Keeping.{Keeps};
 ghost use Rattle.ls_board.specs.Rest.{SameRest};
 ghost use Rattle.ls_settings.specs.Loaded.{IsReady};
@@ -49,6 +49,9 @@ pub fn exchange<B: Board>(
         ((settings.new ≡ settings.old) ⊎ (settings.new ≡ work.commit.to)) }
     ensures did { OnOk result
         (Did (B.sight board.old) (actions_of (plain work)) (B.sight board.new)) }
+    // After a fault all before one of its actions was done, and this one failed.
+    ensures failed { IfErr result (λ part.
+        FailedIn (B.sight board.old) (actions_of (plain work)) part (B.sight board.new)) }
     // A fault comes only where a count rose.
     ensures keeps { Keeps (λ part. part) (B.sight board.old) (B.sight board.new) result }
     // Whatever it answers, nothing was said, heard or drawn, no moment was taken, and there are as

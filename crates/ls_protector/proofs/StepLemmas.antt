@@ -1,7 +1,7 @@
 -- Actions in order up to one that fails: one of them, and two lists in a row.
 use Rattle.std.proofs.Common.{◌≡◌, ◌≤◌, inl, inr, zero, suc, ℕ, IsTrue, IsSomeAnd, List, [], ◌∷◌, ◌++◌, Option, None, Some, unwrap_or, length, take, slice_get, refl, sym, ◌∙◌, ap, subst}
 use Rattle.std.proofs.Math.Nat.{le_refl}
-use Rattle.std.specs.Prelude.{Result, Ok, Err, OnOk}
+use Rattle.std.specs.Prelude.{Result, Ok, Err, IfErr, OnOk}
 use Rattle.ls_board.specs.declared.action.Action.{Action}
 use Rattle.ls_board.specs.declared.action.Answer.{Answer}
 use Rattle.ls_board.specs.declared.action.BoardFault.{BoardFault}
@@ -13,10 +13,11 @@ use Rattle.ls_board.specs.Effect.{after}
 use Rattle.ls_board.specs.Images.{Within}
 use Rattle.ls_board.specs.Keeping.{Keeps}
 use Rattle.ls_board.specs.Planned.{IsPlanned}
-use Rattle.ls_board.specs.Runs.{after_all, CanRun, Did, FailedAfter, LeavesOnly, PlanImage}
+use Rattle.ls_board.specs.Runs.{after_all, CanRun, Did, FailedAfter, FailedIn, LeavesOnly, PlanImage}
 use Rattle.ls_board.proofs.StepLemmas.{planned_count}
-use Rattle.ls_board.proofs.RunLemmas.{can_act, did_none, started}
+use Rattle.ls_board.proofs.RunLemmas.{can_act, did_none, did_then_failed, started}
 use Rattle.ls_board.proofs.CallLemmas.{still_told, did_one, did_both, keeps_behind, failed_keeps, act_crash, front_crash, next_crash}
+use Rattle.ls_board.proofs.FailLemmas.{failed_at, failed_front, failed_behind}
 use Rattle.ls_protector.specs.Steps.{PlanWorld, Steps}
 
 -- ---- the world within a plan
@@ -82,6 +83,7 @@ keeps_err {T} {U} old new part keeps = rose_keeps {T = U} old new part keeps.tol
 pub steps_none : (s : Sight) → Steps {T = Unit {0}} s [] (Ok tt) s
 steps_none s = record {
   did = did_none s;
+  failed = tt;
   keeps = record {
     told = refl;
     never_fails = refl;
@@ -102,6 +104,7 @@ module _ (old new : Sight) (a : Action) (out : List ℕ) (planned : IsPlanned a)
   pub steps_done : (answer : Answer) → Acts old a (Ok answer) out new → Steps {T = Unit {0}} old (a ∷ []) (Ok tt) new
   steps_done answer acts = record {
     did = did_one old new a answer out planned acts;
+    failed = tt;
     keeps = record {
       told = acts.told;
       never_fails = acts.never_fails;
@@ -115,22 +118,24 @@ module _ (old new : Sight) (a : Action) (out : List ℕ) (planned : IsPlanned a)
     crash = act_crash old new a (Ok answer) out acts;
   }
 
-  failed : (part : Part) → Acts old a (Err (Failed part)) out new → Steps {T = Unit {0}} old (a ∷ []) (Err part) new
-  failed part acts = record {
+  one_failed : (part : Part) → Acts old a (Err (Failed part)) out new → Steps {T = Unit {0}} old (a ∷ []) (Err part) new
+  one_failed part acts = record {
     did = tt;
+    failed = record { done = []; failing = a; left = []; splits = refl; failed = did_then_failed old old new [] a part out (did_none old) acts };
     keeps = rose_keeps {T = Unit {0}} old new part acts.told acts.never_fails acts.slots acts.later (acts.cause part refl).1;
     world = λ told. inr (inl ((acts.moves told).failed part refl));
     crash = act_crash old new a (Err (Failed part)) out acts;
   }
 
   pub steps_failed : (part : Part) (fault : BoardFault) → fault ≡ Failed part → Acts old a (Err fault) out new → Steps {T = Unit {0}} old (a ∷ []) (Err part) new
-  steps_failed part fault is acts = failed part (subst (λ (f : BoardFault). Acts old a (Err f) out new) is acts)
+  steps_failed part fault is acts = one_failed part (subst (λ (f : BoardFault). Acts old a (Err f) out new) is acts)
 
 -- a plan that was run
 module _ (old new : Sight) (plan : List Action) (crash : IsTrue old.told → LeavesOnly old new (PlanImage old.world plan)) where
   pub steps_ran : Did old plan new → Steps {T = Unit {0}} old plan (Ok tt) new
   steps_ran did = record {
     did = did;
+    failed = tt;
     keeps = keeps_behind {T = Unit {0}} {E = Part} {fault = λ part. part} old new new plan (Ok tt) did (steps_none new).keeps;
     world = λ told. subst (PlanWorld old.world plan) (sym (did.world told)) (world_end old.world plan);
     crash = crash;
@@ -139,6 +144,7 @@ module _ (old new : Sight) (plan : List Action) (crash : IsTrue old.told → Lea
   pub steps_broke : (at : ℕ) (part : Part) → IsSomeAnd (slice_get plan at) (λ a. FailedAfter old (take at plan) a part new) → Steps {T = Unit {0}} old plan (Err part) new
   steps_broke at part some = record {
     did = tt;
+    failed = failed_at old new plan at part some;
     keeps = failed_keeps {T = Unit {0}} old new (take at plan) (slice_get plan at) part some;
     world = λ told. by told (slice_get plan at) refl some;
     crash = crash;
@@ -152,6 +158,7 @@ module _ (old new : Sight) (plan : List Action) (crash : IsTrue old.told → Lea
 pub steps_front : {T : Type 0} (old new : Sight) (xs ys : List Action) (part : Part) → Steps {T = T} old xs (Err part) new → Steps {T = T} old (xs ++ ys) (Err part) new
 steps_front old new xs ys part steps = record {
   did = tt;
+  failed = failed_front old new xs ys part steps.failed;
   keeps = steps.keeps;
   world = λ told. world_front old.world new.world xs ys (steps.world told);
   crash = front_crash old new xs ys steps.crash;
@@ -160,6 +167,7 @@ steps_front old new xs ys part steps = record {
 pub steps_behind : {T : Type 0} (s0 s1 s2 : Sight) (xs ys : List Action) (result : Result T Part) → Did s0 xs s1 → (IsTrue s0.told → LeavesOnly s0 s1 (PlanImage s0.world xs)) → Steps {T = T} s1 ys result s2 → Steps {T = T} s0 (xs ++ ys) result s2
 steps_behind {T} s0 s1 s2 xs ys result did crash steps = record {
   did = both result steps.did;
+  failed = broken result steps.failed;
   keeps = keeps_behind {T = T} {E = Part} {fault = λ part. part} s0 s1 s2 xs result did steps.keeps;
   world = λ told.
       world_behind s0.world s2.world xs ys (subst (λ (w : World). PlanWorld w ys s2.world) (did.world told) (steps.world (still_told s0 s1 xs did told)));
@@ -169,3 +177,7 @@ steps_behind {T} s0 s1 s2 xs ys result did crash steps = record {
     both : (r : Result T Part) → OnOk r (Did s1 ys s2) → OnOk r (Did s0 (xs ++ ys) s2)
     both (Ok t) then = did_both s0 s1 s2 xs ys did then
     both (Err part) then = tt
+
+    broken : (r : Result T Part) → IfErr r (λ part. FailedIn s1 ys part s2) → IfErr r (λ part. FailedIn s0 (xs ++ ys) part s2)
+    broken (Ok t) then = tt
+    broken (Err part) then = failed_behind s0 s1 s2 xs ys part did then

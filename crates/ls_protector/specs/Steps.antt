@@ -1,5 +1,5 @@
 -- What is done in order up to an action that fails, and what is seen of it.
-use Rattle.std.specs.Prelude.{◌≡◌, ◌⊎◌, ◌++◌, ◌∷◌, [], IsTrue, List, Result, Ok, Err, OnOk}
+use Rattle.std.specs.Prelude.{◌≡◌, ◌⊎◌, ◌++◌, ◌∷◌, [], IsTrue, List, Result, Ok, Err, IfErr, OnOk}
 use Rattle.ls_board.specs.declared.action.Action.{Action}
 use Rattle.ls_board.specs.declared.action.Action.TheVariants.{Sync}
 use Rattle.ls_board.specs.declared.action.Part.{Part}
@@ -8,7 +8,7 @@ use Rattle.ls_board.specs.Acts.{Sight}
 use Rattle.ls_board.specs.Effect.{after}
 use Rattle.ls_board.specs.Images.{Within}
 use Rattle.ls_board.specs.Keeping.{Keeps}
-use Rattle.ls_board.specs.Runs.{Did, LeavesOnly, PlanImage}
+use Rattle.ls_board.specs.Runs.{Did, FailedIn, LeavesOnly, PlanImage}
 use Rattle.ls_formats.specs.declared.parts.Parts.{Parts}
 
 -- what is seen of a draft
@@ -30,6 +30,7 @@ PlanWorld w (a ∷ plan) mid = (mid ≡ w) ⊎ (Within w a mid ⊎ PlanWorld (af
 pub record Steps {T : Type 0} (old : Sight) (plan : List Action) (result : Result T Part)
     (new : Sight) : Type 0 where
   pub did : OnOk result (Did old plan new)
+  pub failed : IfErr result (λ part. FailedIn old plan part new)
   pub keeps : Keeps {T = T} {E = Part} (λ part. part) old new result
   pub world : IsTrue old.told → PlanWorld old.world plan new.world
   pub crash : IsTrue old.told → LeavesOnly old new (PlanImage old.world plan)

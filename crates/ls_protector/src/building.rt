@@ -1,7 +1,7 @@
 //! A protector is built, with what its command makes besides, and put on the disk.
-ghost use Rattle.std.specs.Prelude.{◌≡◌, ◌++◌, ◌∷◌, [], IsTrue, IfOk, OnOk};
+ghost use Rattle.std.specs.Prelude.{◌≡◌, ◌++◌, ◌∷◌, [], IsTrue, IfOk, IfErr, OnOk};
 ghost use Rattle.ls_board.specs.Acts.{Sight};
-ghost use Rattle.ls_board.specs.Runs.{CanRun, Did, LeavesOnly, PlanImage};
+ghost use Rattle.ls_board.specs.Runs.{CanRun, Did, FailedIn, LeavesOnly, PlanImage};
 ghost use Rattle.ls_board.specs.Keeping.{Keeps};
 ghost use Rattle.ls_protector.specs.Clear.{IsClearOf};
 ghost use Rattle.ls_protector.specs.Settled.{IsSettled};
@@ -23,6 +23,8 @@ pub fn build_protector<B: Board>(
     ensures parts { IfOk result (λ durable. durable ≡ draft.parts) }
     ensures did { OnOk result
         (Did (B.sight board.old) (building_of draft others.now) (B.sight board.new)) }
+    ensures failed { IfErr result (λ part.
+        FailedIn (B.sight board.old) (building_of draft others.now) part (B.sight board.new)) }
     ensures keeps { Keeps (λ part. part) (B.sight board.old) (B.sight board.new) result }
     ensures crash { IsTrue (B.sight board.old).told
         → LeavesOnly (B.sight board.old) (B.sight board.new)

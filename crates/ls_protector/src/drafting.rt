@@ -64,8 +64,9 @@ fn sign_by<B: Board>(
     }
 }
 
-/// The Gatekeeper's handle of a password for this id.
-fn sign<B: Board>(
+/// The Gatekeeper's handle of a password for this id, version 1 and 49 bytes, with this salt. It is
+/// only made: the Gatekeeper keeps nothing by it.
+pub fn sign<B: Board>(
     alloc: Global,
     board: &mut B,
     sid: u64,

@@ -13,7 +13,7 @@ mod states;
 mod tidy;
 
 pub use building::build_protector;
-pub use drafting::draft_credential;
+pub use drafting::{draft_credential, sign};
 pub use laws::{
     parts_are_those_of_a_protector, protectors_stand_beside_each_other,
     unnamed_protectors_are_clear, what_is_erased_stays, what_is_settled_stays,

@@ -3,7 +3,7 @@ ghost use Rattle.std.specs.Prelude.{◌≡◌, ◌≤◌, ◌∷◌, [], IsTrue,
 ghost use Rattle.ls_board.specs.Acts.{Sight};
 ghost use Rattle.ls_board.specs.Keeping.{Keeps};
 ghost use Rattle.ls_board.specs.Reach.{SameBut};
-ghost use Rattle.ls_board.specs.Runs.{CanRun, Did, LeavesOnly, PlanImage};
+ghost use Rattle.ls_board.specs.Runs.{CanRun, Did, FailedIn, LeavesOnly, PlanImage};
 ghost use Rattle.ls_protector.specs.Parts.{reach_of_names, reach_of_parts};
 ghost use Rattle.ls_protector.specs.Clear.{IsClearOf, NamesParts, KeepsVaults};
 ghost use Rattle.ls_protector.specs.Settled.{IsSettled};
@@ -23,6 +23,8 @@ pub fn stage<B: Board>(board: &mut B, draft: Draft) -> Result<Staged, (Retired, 
     ensures parts { IfOk result (λ staged. staged ≡ draft.parts) }
     ensures back { IfErr result (λ failed. failed.0 ≡ draft.parts) }
     ensures did { OnOk result (Did (B.sight board.old) draft.plan (B.sight board.new)) }
+    ensures failed { IfErr result (λ failed.
+        FailedIn (B.sight board.old) draft.plan failed.1 (B.sight board.new)) }
     ensures keeps { Keeps (λ part. part) (B.sight board.old) (B.sight board.new)
         (part_of_failed result) }
     ensures crash { IsTrue (B.sight board.old).told
@@ -55,6 +57,8 @@ pub fn settle<B: Board>(board: &mut B, staged: Staged) -> Result<Durable, (Retir
     ensures parts { IfOk result (λ durable. durable ≡ staged) }
     ensures back { IfErr result (λ failed. failed.0 ≡ staged) }
     ensures did { OnOk result (Did (B.sight board.old) (Action.Sync ∷ []) (B.sight board.new)) }
+    ensures failed { IfErr result (λ failed.
+        FailedIn (B.sight board.old) (Action.Sync ∷ []) failed.1 (B.sight board.new)) }
     ensures keeps { Keeps (λ part. part) (B.sight board.old) (B.sight board.new)
         (part_of_failed result) }
     ensures crash { IsTrue (B.sight board.old).told

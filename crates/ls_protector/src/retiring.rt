@@ -3,7 +3,7 @@ ghost use Rattle.std.specs.Prelude.{◌≡◌, ◌≤◌, ◌<◌, ◌∷◌, []
 ghost use Rattle.ls_board.specs.Acts.{Sight};
 ghost use Rattle.ls_board.specs.Keeping.{Keeps};
 ghost use Rattle.ls_board.specs.Reach.{SameBut};
-ghost use Rattle.ls_board.specs.Runs.{CanRun, Did, LeavesOnly, PlanImage};
+ghost use Rattle.ls_board.specs.Runs.{CanRun, Did, FailedIn, LeavesOnly, PlanImage};
 ghost use Rattle.ls_naming.specs.Named.{only_if};
 ghost use Rattle.ls_sealing.specs.Building.{slot_writes};
 ghost use Rattle.ls_standing.specs.Clearing.{blank_write};
@@ -93,6 +93,8 @@ pub fn retire<B: Board>(
     ensures parts { IfOk result (λ retired. retired ≡ named) }
     ensures back { IfErr result (λ failed. failed.0 ≡ named) }
     ensures did { OnOk result (Did (B.sight board.old) (erasing_of named) (B.sight board.new)) }
+    ensures failed { IfErr result (λ failed.
+        FailedIn (B.sight board.old) (erasing_of named) failed.1 (B.sight board.new)) }
     ensures keeps { Keeps (λ part. part) (B.sight board.old) (B.sight board.new)
         (part_of_failed result) }
     ensures crash { IsTrue (B.sight board.old).told

@@ -1,10 +1,10 @@
 //! The files of a retired protector, one at a time.
-ghost use Rattle.std.specs.Prelude.{◌≡◌, ◌≤◌, ◌∷◌, ◌↔◌, [], ℕ, List, length, IsTrue, IfOk, OnOk, OnErr};
+ghost use Rattle.std.specs.Prelude.{◌≡◌, ◌≤◌, ◌∷◌, ◌↔◌, [], ℕ, List, length, IsTrue, IfOk, IfErr, OnOk, OnErr};
 ghost use Rattle.std.specs.List.{Contains};
 ghost use Rattle.ls_board.specs.Acts.{Sight};
 ghost use Rattle.ls_board.specs.Keeping.{Keeps};
 ghost use Rattle.ls_board.specs.Reach.{SameBut};
-ghost use Rattle.ls_board.specs.Runs.{CanRun, Did, LeavesOnly, PlanImage};
+ghost use Rattle.ls_board.specs.Runs.{CanRun, Did, FailedIn, LeavesOnly, PlanImage};
 ghost use Rattle.ls_protector.specs.Parts.{first_removed, without_first, reach_of_names};
 ghost use Rattle.ls_protector.specs.Clear.{AreUnnamedOn, KeepsVaults};
 ghost use Rattle.ls_protector.specs.Steps.{Steps};
@@ -85,6 +85,8 @@ pub fn tidy_step<B: Board>(board: &mut B, retired: &mut Retired) -> Result<bool,
     ensures kept { OnErr result (retired.new ≡ retired.old) }
     ensures did { OnOk result
         (Did (B.sight board.old) (first_removed retired.old.names) (B.sight board.new)) }
+    ensures failed { IfErr result (λ part.
+        FailedIn (B.sight board.old) (first_removed retired.old.names) part (B.sight board.new)) }
     ensures keeps { Keeps (λ part. part) (B.sight board.old) (B.sight board.new) result }
     ensures crash { IsTrue (B.sight board.old).told
         → LeavesOnly (B.sight board.old) (B.sight board.new)

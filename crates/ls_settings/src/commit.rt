@@ -1,11 +1,11 @@
 //! Committing a record.
-ghost use Rattle.std.specs.Prelude.{◌≡◌, ◌≤◌, length, sum_by, IsTrue, IfOk, OnOk, OnErr, Ok};
+ghost use Rattle.std.specs.Prelude.{◌≡◌, ◌≤◌, length, sum_by, IsTrue, IfOk, IfErr, OnOk, OnErr, Ok};
 ghost use Rattle.ls_board.specs.declared.world.World.{World as Worlds};
 ghost use Rattle.ls_board.specs.Acts.{Sight};
 ghost use Rattle.ls_board.specs.Effect.{weight_of, file_at};
 ghost use Rattle.ls_board.specs.Images.{Leaves};
 ghost use Rattle.ls_board.specs.Reach.{SameBut};
-ghost use Rattle.ls_board.specs.Runs.{Did, LeavesOnly};
+ghost use Rattle.ls_board.specs.Runs.{Did, FailedIn, LeavesOnly};
 ghost use Rattle.ls_naming.specs.Current.{current};
 ghost use Rattle.ls_board.specs.Keeping.{Keeps};
 ghost use Rattle.ls_settings.specs.Loaded.{IsReady, settings_reach};
@@ -29,6 +29,8 @@ impl Settings {
         ensures becomes { OnOk result (self.new ≡ plan.to) }
         ensures kept { OnErr result (self.new ≡ self.old) }
         ensures did { OnOk result (Did (B.sight board.old) plan.actions (B.sight board.new)) }
+        ensures failed { IfErr result (λ part.
+            FailedIn (B.sight board.old) plan.actions part (B.sight board.new)) }
         ensures keeps { Keeps (λ part. part) (B.sight board.old) (B.sight board.new) result }
         // A crash at any moment, or within any call, leaves the old record or the new one.
         ensures crash { IsTrue (B.sight board.old).told

@@ -17,4 +17,4 @@ returns-in-Ok-clause-runs g c =
 pub returns-in-Err-clause-runs : goal.returns-in-Err-clause-runs
 returns-in-Err-clause-runs g c =
     call_broke (g.B.Board.sight c.args.board.now) (g.B.Board.sight c.retire.new.board) (erasing_of c.args.named) (reach_of_parts c.args.named) c.retire.ensures.but c.retire.ensures.crash
-    {T = Parts} c.in-Err.part c.in-Err.ensures.keeps
+    {T = Parts} c.in-Err.part c.in-Err.ensures.failed c.in-Err.ensures.keeps

@@ -1,7 +1,7 @@
 use Rattle.std.proofs.Common.{IsTrue, List, Ok, Err, sym, ◌∙◌, ap, subst}
 use Rattle.std.specs.List.{Contains}
 use Rattle.ls_board.specs.Reach.{AllTouchOnly}
-use Rattle.ls_board.specs.Runs.{CanRun}
+use Rattle.ls_board.specs.Runs.{CanRun, FailedIn}
 use Rattle.ls_formats.specs.declared.parts.Parts.{Parts}
 use Rattle.ls_record.specs.Rows.{Rec}
 use Rattle.ls_change.specs.Work.{next_of}
@@ -9,7 +9,7 @@ use Rattle.ls_protector.specs.Clear.{NamesParts}
 use Rattle.ls_exchange.specs.Exchanges.{Exchanged, plain, new_parts}
 use Rattle.ls_exchange.specs.Turns.{DraftsAreClear, RetiredAreClear, storage}
 use Rattle.ls_exchange.proofs.ExchangeLemmas.{can_build, others_stored, drafts_clear, after_stored, retire_clear}
-use Rattle.ls_exchange.proofs.StageLemmas.{built_as, cleared_as, tried_as, made_as, unbuilt_keeps, unbuilt_cut, unbuilt_crash, can_commit, tried_cut, tried_crash, tried_keeps, can_clear, last_cut, last_crash, last_broken, all_done, all_durable, all_ready}
+use Rattle.ls_exchange.proofs.StageLemmas.{built_as, cleared_as, tried_as, made_as, unbuilt_keeps, unbuilt_failed, unbuilt_cut, unbuilt_crash, can_commit, tried_cut, tried_crash, tried_keeps, tried_failed, can_clear, last_cut, last_crash, last_broken, last_failed, all_done, all_durable, all_ready}
 use Rattle.ls_exchange.proofs.running.exchange.Goals as goal
 
 -- ---- what is built
@@ -35,6 +35,13 @@ returns-in-Err-clause-keeps g c =
     let s1 = g.B.Board.sight c.build_all.new.board in
     let broken = built_as _ c.args.work c.work.view_is s0 s1 (Err c.in-Err.part) c.in-Err.ensures.runs in
     unbuilt_keeps s0 c.args.settings.now c.args.work c.requires.quiet s1 c.in-Err.part broken
+
+pub returns-in-Err-clause-failed : goal.returns-in-Err-clause-failed
+returns-in-Err-clause-failed g c =
+    let s0 = g.B.Board.sight c.args.board.now in
+    let s1 = g.B.Board.sight c.build_all.new.board in
+    let broken = built_as _ c.args.work c.work.view_is s0 s1 (Err c.in-Err.part) c.in-Err.ensures.runs in
+    unbuilt_failed s0 c.args.settings.now c.args.work c.requires.quiet s1 c.in-Err.part broken
 
 pub returns-in-Err-clause-cut : goal.returns-in-Err-clause-cut
 returns-in-Err-clause-cut g c =
@@ -66,6 +73,15 @@ returns-in-Err-commit-clause-keeps g c =
     let s2 = g.B.Board.sight c.commit-2.new.board in
     let built = built_as _ c.args.work c.work.view_is s0 s1 (Ok tt) c.in_default.ensures.runs in
     tried_keeps s0 c.args.settings.now c.args.work c.requires.quiet s1 built s2 c.in-Err-commit.part c.in-Err-commit.ensures.keeps
+
+pub returns-in-Err-commit-clause-failed : goal.returns-in-Err-commit-clause-failed
+returns-in-Err-commit-clause-failed g c =
+    let s0 = g.B.Board.sight c.args.board.now in
+    let s1 = g.B.Board.sight c.build_all.new.board in
+    let s2 = g.B.Board.sight c.commit-2.new.board in
+    let built = built_as _ c.args.work c.work.view_is s0 s1 (Ok tt) c.in_default.ensures.runs in
+    let failed = subst (λ (y : Exchanged). FailedIn s1 y.commit.actions c.in-Err-commit.part s2) c.work.view_is c.in-Err-commit.ensures.failed in
+    tried_failed s0 c.args.settings.now c.args.work c.requires.quiet s1 built s2 c.in-Err-commit.part failed
 
 pub returns-in-Err-commit-clause-cut : goal.returns-in-Err-commit-clause-cut
 returns-in-Err-commit-clause-cut g c =
@@ -126,6 +142,17 @@ returns-in-Err-clear_away-clause-keeps g c =
     let made = made_as _ c.args.work c.work.view_is s1 s2 c.args.settings.now (record { tried = record { crash = c.commit-2.ensures.crash; but = c.commit-2.ensures.but }; did = c.in-Ok.ensures.did; ready = c.in-Ok.ensures.ready }) in
     let broken = cleared_as _ c.args.work c.work.view_is s2 s3 (Err c.in-Err-clear_away.part) c.in-Err-clear_away.ensures.runs in
     last_broken s0 c.args.settings.now c.args.work c.requires.quiet s1 built s2 made s3 c.in-Err-clear_away.part broken
+
+pub returns-in-Err-clear_away-clause-failed : goal.returns-in-Err-clear_away-clause-failed
+returns-in-Err-clear_away-clause-failed g c =
+    let s0 = g.B.Board.sight c.args.board.now in
+    let s1 = g.B.Board.sight c.build_all.new.board in
+    let s2 = g.B.Board.sight c.commit-2.new.board in
+    let s3 = g.B.Board.sight c.clear_away.new.board in
+    let built = built_as _ c.args.work c.work.view_is s0 s1 (Ok tt) c.in_default.ensures.runs in
+    let made = made_as _ c.args.work c.work.view_is s1 s2 c.args.settings.now (record { tried = record { crash = c.commit-2.ensures.crash; but = c.commit-2.ensures.but }; did = c.in-Ok.ensures.did; ready = c.in-Ok.ensures.ready }) in
+    let broken = cleared_as _ c.args.work c.work.view_is s2 s3 (Err c.in-Err-clear_away.part) c.in-Err-clear_away.ensures.runs in
+    last_failed s0 c.args.settings.now c.args.work c.requires.quiet s1 built s2 made s3 c.in-Err-clear_away.part broken
 
 pub returns-in-Err-clear_away-clause-cut : goal.returns-in-Err-clear_away-clause-cut
 returns-in-Err-clear_away-clause-cut g c =

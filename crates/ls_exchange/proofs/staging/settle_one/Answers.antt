@@ -13,4 +13,4 @@ returns-in-Ok-clause-runs g c =
 pub returns-in-Err-clause-runs : goal.returns-in-Err-clause-runs
 returns-in-Err-clause-runs g c =
     call_broke (g.B.Board.sight c.args.board.now) (g.B.Board.sight c.settle.new.board) (Sync ∷ []) (reach_of_names []) c.settle.ensures.but c.settle.ensures.crash
-    {T = Parts} c.in-Err.part c.in-Err.ensures.keeps
+    {T = Parts} c.in-Err.part c.in-Err.ensures.failed c.in-Err.ensures.keeps

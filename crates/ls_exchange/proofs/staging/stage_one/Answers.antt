@@ -11,4 +11,4 @@ returns-in-Ok-clause-runs g c =
 pub returns-in-Err-clause-runs : goal.returns-in-Err-clause-runs
 returns-in-Err-clause-runs g c =
     call_broke (g.B.Board.sight c.args.board.now) (g.B.Board.sight c.stage.new.board) c.args.draft.plan (reach_of_parts c.args.draft.parts) c.stage.ensures.but c.stage.ensures.crash
-    {T = Parts} c.in-Err.part c.in-Err.ensures.keeps
+    {T = Parts} c.in-Err.part c.in-Err.ensures.failed c.in-Err.ensures.keeps

@@ -1,7 +1,8 @@
 use Rattle.std.proofs.Common.{take, slice_get, ◌≡◌, ◌≤◌, List, length, sum_by, sym, ap, subst}
 use Rattle.ls_board.specs.declared.action.Action.{Action}
 use Rattle.ls_board.specs.Effect.{weight_of}
-use Rattle.ls_board.specs.Runs.{AllSound}
+use Rattle.ls_board.specs.Runs.{AllSound, FailedIn}
+use Rattle.ls_board.proofs.FailLemmas.{failed_at}
 use Rattle.ls_board.specs.Reach.{AllTouchOnly}
 use Rattle.ls_settings.specs.Commits.{Prepared}
 use Rattle.ls_settings.proofs.CommitLemmas.{commit_sound, plan_applies, plan_crash, plan_ready, plan_held, plan_only, commit_touches, failed_keeps}
@@ -57,3 +58,9 @@ returns-in-Err-clause-but g c =
     failed_same settings_reach (g.B.Board.sight c.args.board.now) (g.B.Board.sight c.run_plan.new.board) c.plan.inside.plan
     (subst (AllTouchOnly settings_reach) (sym is) (commit_touches c.args.self.now c.args.plan.to c.args.plan.actions c.requires.prepared))
     c.in-Err.fault.at c.in-Err.fault.part c.in-Err.ensures.failed
+
+pub returns-in-Err-clause-failed : goal.returns-in-Err-clause-failed
+returns-in-Err-clause-failed g c =
+    let is : c.plan.inside.plan ≡ c.args.plan.actions = ap (λ (p : Prepared). p.actions) c.plan.view_is in
+    subst (λ (l : List Action). FailedIn (g.B.Board.sight c.args.board.now) l c.in-Err.fault.part (g.B.Board.sight c.run_plan.new.board)) is
+    (failed_at (g.B.Board.sight c.args.board.now) (g.B.Board.sight c.run_plan.new.board) c.plan.inside.plan c.in-Err.fault.at c.in-Err.fault.part c.in-Err.ensures.failed)
