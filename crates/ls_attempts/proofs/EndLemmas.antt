@@ -94,7 +94,7 @@ module _ (w : World) (r : Rec) (row : UserRow) (u : User) (t : Token) (offered :
   abbrev sealings : List ℕ → List Held
   sealings ids = map (λ (id : ℕ). held w (token_of row id)) ids
 
-  escrow : HoldsEscrow its (sealings row.tokens) u
+  pub escrow : HoldsEscrow its (sealings row.tokens) u
   escrow = by u.escrow is.holds.escrow
     where
       by : (has : Bool) → MatchBool has (HoldsEscrow its (sealings row.tokens) u) (u.tokens ≡ []) → HoldsEscrow its (sealings row.tokens) u
@@ -107,13 +107,13 @@ module _ (w : World) (r : Rec) (row : UserRow) (u : User) (t : Token) (offered :
   p1 : (is_its_part r.armed row P1 ≡ true) × (its.files P1 ≡ user_file w row P1)
   p1 = there_and (CompletesTo u.secret escrow.p0) (is_its_part r.armed row P1) (user_file w row P1) escrow.whole
 
-  seals : SealsToken (held w (token_of row t.id)) (user_file w row P1) t.bytes u.secret escrow.p0
+  pub seals : SealsToken (held w (token_of row t.id)) (user_file w row P1) t.bytes u.secret escrow.p0
   seals =
       subst (λ (file : Option (List ℕ)). SealsToken (held w (token_of row t.id)) file t.bytes u.secret escrow.p0) p1.1
       (pick (λ id. held w (token_of row id)) (λ h t. SealsToken h (its.files P1) t.bytes u.secret escrow.p0) u.tokens
       (subst (λ (ids : List ℕ). AllZip (λ h t. SealsToken h (its.files P1) t.bytes u.secret escrow.p0) (sealings ids) u.tokens) is.holds.says.tokens escrow.tokens) t there)
 
-  own_token : Contains (row_protectors row) (token_of row t.id)
+  pub own_token : Contains (row_protectors row) (token_of row t.id)
   own_token =
       behind_first (credential_of row) (map (token_of row) row.tokens) (token_of row t.id)
       (in_map (token_of row) row.tokens t.id (subst (λ (ids : List ℕ). Contains ids t.id) (sym is.holds.says.tokens) (in_map (λ t. t.id) u.tokens t there)))

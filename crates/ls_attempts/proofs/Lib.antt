@@ -1,5 +1,5 @@
-mod RowLemmas
+pub mod RowLemmas
 mod HandleLemmas
-mod CountLemmas
-mod MetricsLemmas
-mod EndLemmas
+pub mod CountLemmas
+pub mod MetricsLemmas
+pub mod EndLemmas

@@ -17,7 +17,7 @@ use Rattle.ls_chain.specs.Linked.{IsInForm}
 use Rattle.ls_chain.specs.MetricsFile.{metrics_text, counts_unless, counts_in}
 
 -- what is spelled has no fault
-spelled : (m : KindAndCounts) → AreMetrics m → first_fault metrics_format (metrics_bytes m) ≡ None
+pub spelled : (m : KindAndCounts) → AreMetrics m → first_fault metrics_format (metrics_bytes m) ≡ None
 spelled m are = by (first_fault metrics_format (metrics_bytes m)) refl
   where
     by : (at : Option ℕ) → first_fault metrics_format (metrics_bytes m) ≡ at → first_fault metrics_format (metrics_bytes m) ≡ None

@@ -1,3 +1,5 @@
+pub mod CallingLemmas
+mod MetLemmas
 pub mod LookLemmas
 pub mod StepLemmas
 pub mod CredentialLemmas
@@ -5,13 +7,13 @@ pub mod RowLemmas
 pub mod SealLemmas
 pub mod TokenLemmas
 pub mod TokenSealLemmas
-mod OfferSealLemmas
+pub mod OfferSealLemmas
 pub mod AskLemmas
 pub mod TryLemmas
 mod MayTryLemmas
 mod AttemptLemmas
 mod TokenAttemptLemmas
-mod HeldLinkLemmas
+pub mod HeldLinkLemmas
 pub mod SealedEndLemmas
 pub mod TokenEndLemmas
 mod TokenRowLemmas

@@ -1,5 +1,5 @@
 -- Looks one behind another.
-use Rattle.std.proofs.Common.{◌≡◌, ◌≢◌, ◌≤◌, ℕ, Bool, IsTrue, List, length, Result, Ok, Err, IfOk, refl, sym, ◌∙◌, ap, subst, arith}
+use Rattle.std.proofs.Common.{◌≡◌, ◌≢◌, ◌≤◌, ℕ, Bool, IsTrue, List, length, None, Result, Ok, Err, IfOk, refl, sym, ◌∙◌, ap, subst, arith}
 use Rattle.std.specs.Prelude.{OnOk}
 use Rattle.ls_board.specs.declared.action.Action.{Action}
 use Rattle.ls_board.specs.declared.action.Answer.{Answer}
@@ -9,7 +9,7 @@ use Rattle.ls_board.specs.declared.action.Part.{Part}
 use Rattle.ls_board.specs.declared.world.World.{World}
 use Rattle.ls_board.specs.Acts.{Sight, Acts, Moves, Readies, Rose}
 use Rattle.ls_board.specs.Effect.{Answers, after}
-use Rattle.ls_board.specs.Images.{Leaves, Within}
+use Rattle.ls_board.specs.Images.{Leaves, Within, changing}
 use Rattle.ls_board.specs.Keeping.{Keeps}
 use Rattle.ls_board.specs.Runs.{LeavesOnly}
 use Rattle.ls_board.proofs.RunLemmas.{started, readied, goes_on, joins}
@@ -18,6 +18,8 @@ use Rattle.ls_chain.specs.declared.fault.ChainFault.{ChainFault}
 use Rattle.ls_chain.specs.declared.fault.ChainFault.TheVariants.{Corrupt, Failed, Memory}
 use Rattle.ls_chain.specs.Looking.{Finds, Gives, Looks, fault_of}
 use Rattle.ls_chain.specs.Links.{next_of}
+use Rattle.ls_chain.specs.Calling.{CallsAtMost}
+use Rattle.ls_chain.proofs.CallingLemmas.{calls_none, calls_both, calls_ready, calls_readied, reading_moved}
 
 -- ---- what is kept
 
@@ -99,6 +101,7 @@ module _ {A B : Type 0} (look : Look A) (old mid : Sight) where
   look_err next e looks = record {
     keeps = kept_err old mid e looks.keeps;
     same = looks.same;
+    calls = looks.calls;
     crash = looks.crash;
     finds = λ told. finds_err (look old.world) (λ a. next a old.world) e (looks.finds told);
   }
@@ -108,6 +111,7 @@ module _ {A B : Type 0} (look : Look A) (old mid : Sight) where
   look_both next new a r first second = record {
     keeps = kept_both old mid new a r first.keeps second.keeps;
     same = λ told. second.same (still told) ∙ first.same told;
+    calls = λ told. calls_both None old mid new (first.calls told) (second.calls (still told));
     crash = λ told. joins old mid new (Leaves old.world) (first.crash told) (subst (λ (w : World). LeavesOnly mid new (Leaves w)) (first.same told) (second.crash (still told)));
     finds = λ told. subst (λ (x : Result A Spot). Finds (next_of x (λ a. next a old.world)) r) (sym (first.finds told))
         (subst (λ (w : World). Finds (next a w) r) (first.same told) (second.finds (still told)));
@@ -121,6 +125,7 @@ module _ {A B : Type 0} (look : Look A) (old mid : Sight) where
   look_gives next a r first gives = record {
     keeps = kept_quiet old mid a r first.keeps (gives_calm (next a old.world) r (gives old.world));
     same = first.same;
+    calls = first.calls;
     crash = first.crash;
     finds = λ told. subst (λ (x : Result A Spot). Finds (next_of x (λ a. next a old.world)) r) (sym (first.finds told)) (gives_finds (next a old.world) r (gives old.world));
   }
@@ -130,6 +135,7 @@ module _ {A B : Type 0} (look : Look A) (old mid : Sight) where
   look_lacks whole a first = record {
     keeps = kept_quiet old mid a (Err Memory) first.keeps (λ p is. cc);
     same = first.same;
+    calls = first.calls;
     crash = first.crash;
     finds = λ told. tt;
   }
@@ -148,6 +154,7 @@ look_none {T} look s r gives = record {
     cause = λ p is. absurd (gives_calm (look s.world) r (gives s.world) p is);
   };
   same = λ told. refl;
+  calls = λ told. calls_none None s;
   crash = λ told. started s (Leaves s.world) (λ image left. left);
   finds = λ told. gives_finds (look s.world) r (gives s.world);
 }
@@ -171,12 +178,13 @@ look_no_room look old mid actions bytes made readies = record {
     cause = λ p is. cc;
   };
   same = λ told. ap (λ (s : Sight). s.world) readies.same;
+  calls = λ told. calls_ready None old mid actions bytes made readies;
   crash = λ told. readied old old mid (Leaves old.world) actions bytes made (started old (Leaves old.world) (λ image left. left)) readies;
   finds = λ told. tt;
 }
 
 module _ {T : Type 0} (look : World → Result T Spot) (old ready new : Sight) {E : Type 0} (actions bytes : ℕ) (made : Result Unit E) (readies : Readies old actions bytes made ready)
-    (a : Action) (within_same : (w mid : World) → Within w a mid → mid ≡ w) (after_same : (w : World) (n : ℕ) → after w a n ≡ w) (result : Result Answer BoardFault) (out : List ℕ) (acts : Acts ready a result out new) where
+    (a : Action) (within_same : (w mid : World) → Within w a mid → mid ≡ w) (after_same : (w : World) (n : ℕ) → after w a n ≡ w) (none : changing a ≡ None) (result : Result Answer BoardFault) (out : List ℕ) (acts : Acts ready a result out new) where
   world_of : ready.world ≡ old.world
   world_of = ap (λ (s : Sight). s.world) readies.same
 
@@ -193,6 +201,9 @@ module _ {T : Type 0} (look : World → Result T Spot) (old ready new : Sight) {
 
   same_world : IsTrue old.told → new.world ≡ old.world
   same_world told = unmoved (moves_of told) result refl ∙ world_of
+
+  reads_only : IsTrue old.told → CallsAtMost None old new
+  reads_only told = calls_readied None old ready new actions bytes made readies (reading_moved ready new a result out (moves_of told) None none)
 
   left : IsTrue old.told → LeavesOnly old new (Leaves old.world)
   left told = goes_on old ready new a result out (Leaves old.world)
@@ -212,6 +223,7 @@ module _ {T : Type 0} (look : World → Result T Spot) (old ready new : Sight) {
       cause = λ p nay. absurd (cc);
     };
     same = same_world;
+    calls = reads_only;
     crash = left;
     finds = λ told. finds old.world (subst (λ (w : World). Answers w a answer out) world_of
         (subst (λ (r : Result Answer BoardFault). IfOk r (λ answer. Answers ready.world a answer out × (new.world ≡ after ready.world a (length out)))) is (moves_of told).done).0);
@@ -233,6 +245,7 @@ module _ {T : Type 0} (look : World → Result T Spot) (old ready new : Sight) {
       cause = λ p nay. subst (λ (f : Part → ℕ). Rose (f p) (new.faults p)) faults_of (acts.cause p (is ∙ ap (λ (q : Part). Err (BoardFailed q)) (same_part {T = T} part p nay))).1;
     };
     same = same_world;
+    calls = reads_only;
     crash = left;
     finds = λ told. tt;
   }
@@ -250,6 +263,7 @@ module _ {T : Type 0} (look : World → Result T Spot) (old ready new : Sight) {
       cause = λ p nay. absurd (cc);
     };
     same = same_world;
+    calls = reads_only;
     crash = left;
     finds = λ told. tt;
   }

@@ -14,19 +14,15 @@ use Rattle.ls_chain.specs.Links.{next_of}
 use Rattle.ls_chain.specs.Trying.{Tries, OnAnswer, MayTry, after_asked, LeavesAsked, asked_of}
 use Rattle.ls_chain.proofs.LookLemmas.{kept_both, look_err}
 use Rattle.ls_chain.proofs.TryLemmas.{IsDevice}
+use Rattle.ls_chain.specs.Calling.{CallsAtMost}
+use Rattle.ls_chain.proofs.CallingLemmas.{calls_both, reads_at_most, on_answer}
 
 -- one device is asked, or none
 pub tries_one : {T : Type 0} (a : Action) (look : World → Result T Spot) (old : Sight) (r : Result T ChainFault) (new : Sight) → Tries a look old r new → MayTry (λ w. Some a) look old r new
-tries_one a look old r new t = record { keeps = t.keeps; asked = t.asked; crash = t.crash; finds = t.finds }
-
-on_all : {T : Type 0} (r : Result T ChainFault) (P : Type 0) → P → OnAnswer r P
-on_all (Ok t) P p = p
-on_all (Err (Corrupt spot)) P p = p
-on_all (Err (Failed part)) P p = tt
-on_all (Err Memory) P p = tt
+tries_one a look old r new t = record { keeps = t.keeps; asked = t.asked; calls = t.calls; crash = t.crash; finds = t.finds }
 
 pub tries_none : {T : Type 0} (look : World → Result T Spot) (old : Sight) (r : Result T ChainFault) (new : Sight) → Looks look old r new → MayTry (λ w. None) look old r new
-tries_none look old r new l = record { keeps = l.keeps; asked = λ told. on_all r (new.world ≡ old.world) (l.same told); crash = l.crash; finds = l.finds }
+tries_none look old r new l = record { keeps = l.keeps; asked = λ told. on_answer r (new.world ≡ old.world) (l.same told); calls = l.calls; crash = l.crash; finds = l.finds }
 
 abbrev pub MayBeDevice : Option Action → Type 0
 MayBeDevice None = Unit {0}
@@ -58,6 +54,7 @@ module _ {A B : Type 0} (look : World → Result A Spot) (old mid : Sight) (ask 
       let l = look_err look old mid next e looks in record {
         keeps = l.keeps;
         asked = λ told. none_asked e (looks.finds told) (looks.same told);
+        calls = λ told. reads_at_most (asks old.world) old mid (looks.calls told);
         crash = λ told. weaker old mid (Leaves old.world) (LeavesAsked old.world (asks old.world)) (at_first old.world (asks old.world) (device_of (look old.world))) (looks.crash told);
         finds = l.finds;
       }
@@ -67,6 +64,8 @@ module _ {A B : Type 0} (look : World → Result A Spot) (old mid : Sight) (ask 
     keeps = kept_both old mid new a r first.keeps second.keeps;
     asked = λ told. subst (λ (x : Result A Spot). OnAnswer r (new.world ≡ after_asked old.world (asked_of x ask))) (sym (first.finds told))
         (subst (λ (w : World). OnAnswer r (new.world ≡ after_asked w (ask a))) (first.same told) (second.asked (still told)));
+    calls = λ told. subst (λ (x : Result A Spot). CallsAtMost (asked_of x ask) old new) (sym (first.finds told))
+        (calls_both (ask a) old mid new (reads_at_most (ask a) old mid (first.calls told)) (second.calls (still told)));
     crash = λ told. subst (λ (x : Result A Spot). LeavesOnly old new (LeavesAsked old.world (asked_of x ask))) (sym (first.finds told))
         (joins old mid new (LeavesAsked old.world (ask a)) (weaker old mid (Leaves old.world) (LeavesAsked old.world (ask a)) (at_first old.world (ask a) (devices a)) (first.crash told))
         (subst (λ (w : World). LeavesOnly mid new (LeavesAsked w (ask a))) (first.same told) (second.crash (still told))));

@@ -1,5 +1,5 @@
 -- The asking of a device: what it tells, and what a crash within it leaves.
-use Rattle.std.specs.Prelude.{◌≡◌, ◌+◌, IsTrue, [], Result, IfOk, OnOk}
+use Rattle.std.specs.Prelude.{◌≡◌, ◌+◌, IsTrue, [], Some, Result, IfOk, OnOk}
 use Rattle.ls_board.specs.declared.action.Action.{Action}
 use Rattle.ls_board.specs.declared.action.Answer.{Answer}
 use Rattle.ls_board.specs.declared.action.Answer.TheVariants.{Accepted, Wrong, Throttled, Unknown}
@@ -9,6 +9,7 @@ use Rattle.ls_board.specs.Acts.{Sight}
 use Rattle.ls_board.specs.Images.{LeavesWithin}
 use Rattle.ls_board.specs.Keeping.{Keeps}
 use Rattle.ls_board.specs.Runs.{LeavesOnly}
+use Rattle.ls_chain.specs.Calling.{CallsAtMost}
 use Rattle.ls_chain.specs.declared.asking.HandleAnswer.{HandleAnswer}
 use Rattle.ls_chain.specs.declared.asking.HandleAnswer.TheVariants.{Accepted as Known, Wrong as Missed, Throttled as Resting, Unknown as Strange}
 
@@ -20,6 +21,7 @@ pub record AsksDevice {T : Type 0} (a : Action) (answer_of : T → Answer) (old 
   pub bytes : new.bytes + weight_of a ≡ old.bytes
   pub tells : IsTrue old.told → IfOk result (λ t. Answers old.world a (answer_of t) [])
   pub done : IsTrue old.told → OnOk result (new.world ≡ after old.world a 0)
+  pub calls : IsTrue old.told → CallsAtMost (Some a) old new
   -- whole or absent
   pub crash : IsTrue old.told → LeavesOnly old new (LeavesWithin old.world a)
 

@@ -14,13 +14,20 @@ use Rattle.ls_sealing.specs.Chain.{weaver_key, gatekeeper_password}
 use Rattle.ls_chain.specs.declared.fault.Spot.{Spot}
 use Rattle.ls_chain.specs.declared.offered.Offered.{Offered}
 use Rattle.ls_chain.specs.declared.trying.AttemptEnd.{AttemptEnd}
-use Rattle.ls_chain.specs.declared.trying.AttemptEnd.TheVariants.{Opened, Wrong as Missed, Throttled as Resting}
+use Rattle.ls_chain.specs.declared.trying.AttemptEnd.TheVariants.{Opened, WrongKind, Wrong as Missed, Throttled as Resting}
 use Rattle.ls_chain.specs.Links.{spot, next_of, Links, links_at}
 use Rattle.ls_chain.specs.Credentials.{credential_chain}
 use Rattle.ls_chain.specs.Offers.{offer_chain}
 use Rattle.ls_chain.specs.Trying.{asked_of}
 
 -- ---- behind the device's answer
+
+-- the end is of the kind that is stored
+abbrev pub IsOfKind : AttemptEnd → Type 0
+IsOfKind (Opened s) = Unit {0}
+IsOfKind (WrongKind kind) = ⊥
+IsOfKind (Missed rest) = Unit {0}
+IsOfKind (Resting rest) = Unit {0}
 
 -- the chain behind an answer that accepted
 abbrev pub opened_end : Links → List ℕ → Option (List ℕ) → Result AttemptEnd Spot

@@ -1,3 +1,4 @@
+pub mod Calling
 pub mod Looking
 pub mod Links
 pub mod Credentials

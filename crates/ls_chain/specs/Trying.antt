@@ -7,6 +7,7 @@ use Rattle.ls_board.specs.Effect.{after}
 use Rattle.ls_board.specs.Images.{Leaves, LeavesWithin}
 use Rattle.ls_board.specs.Keeping.{Keeps}
 use Rattle.ls_board.specs.Runs.{LeavesOnly}
+use Rattle.ls_chain.specs.Calling.{CallsAtMost}
 use Rattle.ls_chain.specs.declared.fault.Spot.{Spot}
 use Rattle.ls_chain.specs.declared.fault.ChainFault.{ChainFault}
 use Rattle.ls_chain.specs.declared.fault.ChainFault.TheVariants.{Corrupt, Failed, Memory}
@@ -27,6 +28,7 @@ pub record Tries {T : Type 0} (a : Action) (look : World → Result T Spot) (old
     (result : Result T ChainFault) (new : Sight) : Type 0 where
   pub keeps : Keeps {T = T} {E = ChainFault} Failed old new result
   pub asked : IsTrue old.told → OnAnswer result (new.world ≡ after old.world a 0)
+  pub calls : IsTrue old.told → CallsAtMost (Some a) old new
   pub crash : IsTrue old.told → LeavesOnly old new (LeavesWithin old.world a)
   pub finds : IsTrue old.told → Finds (look old.world) result
 
@@ -53,5 +55,6 @@ pub record MayTry {T : Type 0} (ask : World → Option Action) (look : World →
     (old : Sight) (result : Result T ChainFault) (new : Sight) : Type 0 where
   pub keeps : Keeps {T = T} {E = ChainFault} Failed old new result
   pub asked : IsTrue old.told → OnAnswer result (new.world ≡ after_asked old.world (ask old.world))
+  pub calls : IsTrue old.told → CallsAtMost (ask old.world) old new
   pub crash : IsTrue old.told → LeavesOnly old new (LeavesAsked old.world (ask old.world))
   pub finds : IsTrue old.told → Finds (look old.world) result

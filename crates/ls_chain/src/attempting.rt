@@ -1,10 +1,10 @@
 //! An attempt with a credential.
-ghost use Rattle.std.specs.Prelude.{◌≡◌, ◌≢◌, ◌<◌, Ok, IfSome, is_some};
+ghost use Rattle.std.specs.Prelude.{◌≡◌, ◌≢◌, ◌<◌, Ok, IfOk, IfSome, is_some};
 ghost use Rattle.ls_board.specs.Acts.{Sight};
 ghost use Rattle.ls_chain.specs.declared.trying.AttemptEnd.TheVariants.{WrongKind};
 ghost use Rattle.ls_chain.specs.Trying.{MayTry};
 ghost use Rattle.ls_chain.specs.Attempting.{handle_asked, device_asked, stored_end, device_end};
-ghost use Rattle.ls_chain.specs.Attempting.{attempt_asked, attempt_end};
+ghost use Rattle.ls_chain.specs.Attempting.{attempt_asked, attempt_end, IsOfKind};
 
 use crate::fault::ChainFault;
 use crate::offered::{Offered, read_offer};
@@ -28,6 +28,7 @@ fn try_stored<B: Board>(
     ensures tries { MayTry (λ w. handle_asked handle.now stretched.now moment)
         (stored_end user id handle.now stretched.now moment)
         (B.sight board.old) result (B.sight board.new) }
+    ensures of_kind { IfOk result IsOfKind }
 {
     match handle {
         Some(handle) => try_handle(alloc, board, user, id, handle, stretched, moment),
@@ -50,6 +51,7 @@ fn try_offer<B: Board>(
     ensures tries { MayTry (λ w. device_asked slot moment offered.now)
         (device_end user id slot moment offered.now)
         (B.sight board.old) result (B.sight board.new) }
+    ensures of_kind { IfOk result IsOfKind }
 {
     match slot {
         Some(slot) => try_slot(alloc, board, user, id, slot, &offered.stretched, moment),
@@ -82,6 +84,7 @@ fn attempt_text<B: Board>(
     ensures tries { MayTry (attempt_asked user id weaver slot kind text.now moment)
         (attempt_end user id weaver slot kind text.now moment)
         (B.sight board.old) result (B.sight board.new) }
+    ensures of_kind { IfOk result IsOfKind }
 {
     let offered = read_offer(alloc, board, user, id, weaver, kind, text)?;
     try_offer(alloc, board, user, id, slot, &offered, moment)
@@ -105,6 +108,7 @@ pub fn attempt<B: Board>(
         → MayTry (attempt_asked parts.now.user parts.now.id (is_some parts.now.slot) parts.now.slot stored credential.now.text moment)
         (attempt_end parts.now.user parts.now.id (is_some parts.now.slot) parts.now.slot stored credential.now.text moment)
         (B.sight board.old) result (B.sight board.new) }
+    ensures of_kind { credential.now.kind ≡ stored → IfOk result IsOfKind }
 {
     if credential.kind != stored {
         return Ok(AttemptEnd::WrongKind(stored));

@@ -1,10 +1,12 @@
 //! Reading the files of a chain.
-ghost use Rattle.std.specs.Prelude.{◌≡◌, Ok, None, IfOk};
+ghost use Rattle.std.specs.Prelude.{◌≡◌, Ok, None, IsTrue, IfOk};
 ghost use Rattle.ls_formats.specs.PartNames.{part_name_text};
 ghost use Rattle.ls_board.specs.Acts.{Sight};
 ghost use Rattle.ls_board.specs.Effect.{file_at};
 ghost use Rattle.ls_sealing.specs.PartFormats.{format_fault};
+ghost use Rattle.ls_chain.specs.Calling.{BeginsByReading};
 ghost use Rattle.ls_chain.specs.Looking.{Looks, Gives};
+ghost use Rattle.ls_chain.specs.Trying.{OnAnswer};
 ghost use Rattle.ls_chain.specs.Links.{sound_file};
 
 use crate::fault::{ChainFault, Spot};
@@ -47,6 +49,9 @@ fn read_by<B: Board>(
     requires reads { read.now ≡ Action.Read (part_name_text name.now) }
     ensures looks { Looks (λ w. Ok (file_at w (part_name_text name.now)))
         (B.sight board.old) result (B.sight board.new) }
+    // Its first call met the world.
+    ensures met { IsTrue (B.sight board.old).told
+        → OnAnswer result (BeginsByReading (B.sight board.old) (B.sight board.new)) }
 {
     board.ready(alloc, 1, 0)?;
     let mut out = Vec::new(alloc);
@@ -62,6 +67,9 @@ pub fn read_file<B: Board>(
 ) -> Result<Option<Bytes>, ChainFault>
     ensures looks { Looks (λ w. Ok (file_at w (part_name_text name.now)))
         (B.sight board.old) result (B.sight board.new) }
+    // Its first call met the world.
+    ensures met { IsTrue (B.sight board.old).told
+        → OnAnswer result (BeginsByReading (B.sight board.old) (B.sight board.new)) }
 {
     let read = Action::Read {
         name: name_of(alloc, name)?,
@@ -95,6 +103,9 @@ pub fn sound_file<B: Board>(
     ensures looks { Looks (λ w. sound_file name.now.part (file_at w (part_name_text name.now)))
         (B.sight board.old) result (B.sight board.new) }
     ensures format { IfOk result (λ bytes. format_fault name.now.part bytes ≡ None) }
+    // Its first call met the world.
+    ensures met { IsTrue (B.sight board.old).told
+        → OnAnswer result (BeginsByReading (B.sight board.old) (B.sight board.new)) }
 {
     let file = read_file(alloc, board, name)?;
     sound(name.part, file)

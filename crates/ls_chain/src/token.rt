@@ -5,7 +5,9 @@ ghost use Rattle.ls_secret.specs.Secrets.{synthetic_password};
 ghost use Rattle.ls_board.specs.Acts.{Sight};
 ghost use Rattle.ls_board.specs.Keys.{key_at};
 ghost use Rattle.ls_sealing.specs.PartFormats.{format_fault};
+ghost use Rattle.ls_chain.specs.Calling.{BeginsByReading};
 ghost use Rattle.ls_chain.specs.Looking.{Looks, Gives};
+ghost use Rattle.ls_chain.specs.Trying.{OnAnswer};
 ghost use Rattle.ls_chain.specs.Links.{links_at, next_of};
 ghost use Rattle.ls_chain.specs.Credentials.{secret_in};
 ghost use Rattle.ls_chain.specs.Tokens.{token_files, slot_file_of, discardable_in, half_by, half_in};
@@ -75,6 +77,9 @@ pub fn read_token<B: Board>(
     ensures looks { Looks (λ w. token_files (links_at w user id) weaver)
         (B.sight board.old) result (B.sight board.new) }
     ensures format { IfOk result (λ files. format_fault BlobPart files.blob ≡ None) }
+    // Its first call met the world.
+    ensures met { IsTrue (B.sight board.old).told
+        → OnAnswer result (BeginsByReading (B.sight board.old) (B.sight board.new)) }
 {
     let part = FilePart::SpBlob;
     let blob = sound_file(alloc, board, &PartName { user, id, part })?;

@@ -1,10 +1,11 @@
 //! An attempt with a token.
-ghost use Rattle.std.specs.Prelude.{◌≡◌, ◌<◌, None, IfSome, is_some};
+ghost use Rattle.std.specs.Prelude.{◌≡◌, ◌<◌, None, IsTrue, IfSome, is_some};
 ghost use Rattle.ls_formats.specs.declared.part.FilePart.TheVariants.{SpBlob as BlobPart};
 ghost use Rattle.ls_board.specs.Acts.{Sight};
 ghost use Rattle.ls_board.specs.declared.action.Action.TheVariants.{WeaverRead};
 ghost use Rattle.ls_sealing.specs.PartFormats.{format_fault};
-ghost use Rattle.ls_chain.specs.Trying.{Tries, MayTry};
+ghost use Rattle.ls_chain.specs.Calling.{BeginsByReading};
+ghost use Rattle.ls_chain.specs.Trying.{Tries, MayTry, OnAnswer};
 ghost use Rattle.ls_chain.specs.TokenAttempts.{zero_key, token_slot_end, token_action, token_files_end};
 ghost use Rattle.ls_chain.specs.TokenAttempts.{token_asked, token_end};
 
@@ -88,6 +89,9 @@ fn try_token<B: Board>(
     ensures tries { MayTry (token_asked user id weaver slot)
         (token_end user id weaver slot token.now)
         (B.sight board.old) result (B.sight board.new) }
+    // Its first call met the world.
+    ensures met { IsTrue (B.sight board.old).told
+        → OnAnswer result (BeginsByReading (B.sight board.old) (B.sight board.new)) }
 {
     let files = read_token(alloc, board, user, id, weaver)?;
     try_files(alloc, board, user, id, slot, token, &files)
@@ -106,6 +110,9 @@ pub fn open_token<B: Board>(
     ensures tries { MayTry (token_asked parts.now.user parts.now.id (is_some parts.now.slot) parts.now.slot)
         (token_end parts.now.user parts.now.id (is_some parts.now.slot) parts.now.slot token.now)
         (B.sight board.old) result (B.sight board.new) }
+    // Its first call met the world.
+    ensures met { IsTrue (B.sight board.old).told
+        → OnAnswer result (BeginsByReading (B.sight board.old) (B.sight board.new)) }
 {
     try_token(
         alloc,

@@ -1,12 +1,12 @@
 //! An offer to a device, and the chain behind its answer.
-ghost use Rattle.std.specs.Prelude.{◌≡◌, ◌<◌};
+ghost use Rattle.std.specs.Prelude.{◌≡◌, ◌<◌, IfOk};
 ghost use Rattle.ls_board.specs.Acts.{Sight};
 ghost use Rattle.ls_board.specs.declared.action.Action.TheVariants.{WeaverRead, GkVerify};
 ghost use Rattle.ls_sealing.specs.Chain.{weaver_key, gatekeeper_password};
 ghost use Rattle.ls_chain.specs.Looking.{Looks};
 ghost use Rattle.ls_chain.specs.Links.{links_at};
 ghost use Rattle.ls_chain.specs.Trying.{Tries};
-ghost use Rattle.ls_chain.specs.Attempting.{opened_end, slot_end, handle_end};
+ghost use Rattle.ls_chain.specs.Attempting.{opened_end, slot_end, handle_end, IsOfKind};
 
 use crate::asking::{HandleAnswer, ask_handle, ask_slot};
 use crate::credential::open_credential;
@@ -44,6 +44,7 @@ pub fn opened<B: Board>(
     requires id { 0 < id }
     ensures looks { Looks (λ w. opened_end (links_at w user id) stretched.now value.now)
         (B.sight board.old) result (B.sight board.new) }
+    ensures of_kind { IfOk result IsOfKind }
 {
     let secret = open_credential(alloc, board, user, id, stretched, value)?;
     Ok(AttemptEnd::Opened(secret))
@@ -64,6 +65,7 @@ pub fn try_slot<B: Board>(
     ensures tries { Tries (WeaverRead slot (weaver_key stretched.now) moment)
         (slot_end user id slot stretched.now moment)
         (B.sight board.old) result (B.sight board.new) }
+    ensures of_kind { IfOk result IsOfKind }
 {
     if board.ready(alloc, 1, 0).is_err() {
         return Err(ChainFault::Memory);
@@ -91,6 +93,7 @@ pub fn try_handle<B: Board>(
     ensures tries { Tries (GkVerify handle.now (gatekeeper_password stretched.now) moment)
         (handle_end user id handle.now stretched.now moment)
         (B.sight board.old) result (B.sight board.new) }
+    ensures of_kind { IfOk result IsOfKind }
 {
     let password = Bytes::of(alloc, &gatekeeper_password(stretched))?;
     if board.ready(alloc, 1, 64).is_err() {

@@ -17,8 +17,10 @@ use Rattle.ls_board.proofs.RunLemmas.{started, readied, goes_on, joins, weaker}
 use Rattle.ls_chain.specs.declared.fault.Spot.{Spot}
 use Rattle.ls_chain.specs.declared.fault.ChainFault.{ChainFault}
 use Rattle.ls_chain.specs.declared.fault.ChainFault.TheVariants.{Corrupt, Failed, Memory}
+use Rattle.ls_chain.specs.Calling.{CallsAtMost}
 use Rattle.ls_chain.specs.Looking.{Looks, Finds}
 use Rattle.ls_chain.specs.Trying.{MayTry, OnAnswer, after_asked, LeavesAsked}
+use Rattle.ls_chain.proofs.CallingLemmas.{calls_none, calls_both, calls_ready, calls_readied, calls_moved, reads_at_most}
 use Rattle.ls_resume.specs.Learning.{Learns, told_as}
 use Rattle.ls_resume.specs.Passing.{Passes}
 
@@ -101,6 +103,7 @@ module _ {A B : Type 0} (a : Option Action) (look : World → A) (whole : World 
     keeps = kept_err old mid e first.keeps;
     done = λ told. tt;
     left = first.left;
+    calls = first.calls;
     crash = first.crash;
     finds = λ told. tt;
   }
@@ -111,6 +114,7 @@ module _ {A B : Type 0} (a : Option Action) (look : World → A) (whole : World 
     keeps = kept_calm old mid x (Ok y) first.keeps (λ p is. cc);
     done = first.done;
     left = first.left;
+    calls = first.calls;
     crash = first.crash;
     finds = λ told. follows old.world (first.finds told);
   }
@@ -121,6 +125,7 @@ module _ {A B : Type 0} (a : Option Action) (look : World → A) (whole : World 
     keeps = kept_calm old mid x (Err BoardMemory) first.keeps (λ p is. cc);
     done = λ told. tt;
     left = first.left;
+    calls = first.calls;
     crash = first.crash;
     finds = λ told. tt;
   }
@@ -132,6 +137,7 @@ module _ {A B : Type 0} (a : Option Action) (look : World → A) (whole : World 
     keeps = kept_both old mid new x r first.keeps second.keeps;
     done = λ told. on r (second.done (on_told told)) (first.done told);
     left = λ told. inr (same (second.left (on_told told)) ∙ first.done told);
+    calls = λ told. calls_both a old mid new (first.calls told) (reads_at_most a mid new (second.calls (on_told told)));
     crash = λ told. joins old mid new (LeavesAsked old.world a) (first.crash told)
         (weaker mid new (Leaves mid.world) (LeavesAsked old.world a)
         (λ image left. is_whole.behind old.world image (subst (λ (w : World). Leaves w image) (first.done told) left)) (second.crash (on_told told)));
@@ -164,6 +170,7 @@ module _ {A B : Type 0} (a : Option Action) (is_whole : IsWhole a) (look : World
     keeps = kept_both old mid new x r first.keeps second.keeps;
     done = λ told. subst (λ (w : World). OnOk r (new.world ≡ after_asked w a)) (first.done told) (second.done (on_told told));
     left = λ told. subst (λ (w : World). (new.world ≡ w) ⊎ (new.world ≡ after_asked w a)) (first.done told) (second.left (on_told told));
+    calls = λ told. calls_both a old mid new (reads_at_most a old mid (first.calls told)) (second.calls (on_told told));
     crash = λ told. joins old mid new (LeavesAsked old.world a)
         (weaker old mid (Leaves old.world) (LeavesAsked old.world a) (is_whole.before old.world) (first.crash told))
         (subst (λ (w : World). LeavesOnly mid new (LeavesAsked w a)) (first.done told) (second.crash (on_told told)));
@@ -180,6 +187,7 @@ learn_stops a is_whole look whole old mid e first = record {
   keeps = kept_err old mid e first.keeps;
   done = λ told. tt;
   left = λ told. inl (same (first.left told));
+  calls = λ told. reads_at_most a old mid (first.calls told);
   crash = λ told. weaker old mid (Leaves old.world) (LeavesAsked old.world a) (is_whole.before old.world) (first.crash told);
   finds = λ told. tt;
 }
@@ -203,6 +211,7 @@ learn_known look s t is = record {
   };
   done = λ told. refl;
   left = λ told. inl refl;
+  calls = λ told. calls_none None s;
   crash = λ told. started s (Leaves s.world) (λ image left. left);
   finds = λ told. is s.world;
 }
@@ -220,6 +229,7 @@ learn_none look s = record {
   };
   done = λ told. tt;
   left = λ told. inl refl;
+  calls = λ told. calls_none None s;
   crash = λ told. started s (Leaves s.world) (λ image left. left);
   finds = λ told. tt;
 }
@@ -265,6 +275,7 @@ module _ {A B : Type 0} (look : World → Result A Spot) (tell : Result A Spot �
     keeps = chain_kept r looks.keeps;
     done = λ told. chain_done r (looks.same told);
     left = λ told. inl (looks.same told);
+    calls = looks.calls;
     crash = looks.crash;
     finds = λ told. chain_found r (looks.finds told);
   }
@@ -307,6 +318,7 @@ module _ (old ready new : Sight) {E : Type 0} (actions bytes : ℕ) (made : Resu
     };
     done = λ told. tt;
     left = λ told. inl world_of;
+    calls = λ told. calls_ready a old ready actions bytes made readies;
     crash = λ told. readied old old ready (LeavesAsked old.world a) actions bytes made (started old (LeavesAsked old.world a) (is_whole.before old.world)) readies;
     finds = λ told. tt;
   }
@@ -319,6 +331,9 @@ module _ (old ready new : Sight) {E : Type 0} (actions bytes : ℕ) (made : Resu
     crash_of told = goes_on old ready new ResumeTake result out (LeavesWithin old.world ResumeTake)
         (readied old old ready (LeavesWithin old.world ResumeTake) actions bytes made (started old (LeavesWithin old.world ResumeTake) (a_taking.before old.world)) readies) (moves_of told)
         (λ image within. subst (λ (w : World). LeavesWithin w ResumeTake image) world_of within)
+
+    calls_of : IsTrue old.told → CallsAtMost (Some ResumeTake) old new
+    calls_of told = calls_readied (Some ResumeTake) old ready new actions bytes made readies (calls_moved ready new ResumeTake result out (moves_of told))
 
     done_of : IsTrue old.told → (answer : Answer) → result ≡ Ok answer → Answers old.world ResumeTake answer out × (new.world ≡ after old.world ResumeTake 0)
     done_of told answer is =
@@ -340,6 +355,7 @@ module _ (old ready new : Sight) {E : Type 0} (actions bytes : ℕ) (made : Resu
       };
       done = λ told. (done_of told answer is).1;
       left = λ told. inr (done_of told answer is).1;
+      calls = calls_of;
       crash = crash_of;
       finds = λ told. gives old.world.cell (done_of told answer is).0.0;
     }
@@ -362,6 +378,7 @@ module _ (old ready new : Sight) {E : Type 0} (actions bytes : ℕ) (made : Resu
       };
       done = λ told. tt;
       left = λ told. subst (λ (w : World). (new.world ≡ w) ⊎ (new.world ≡ after w ResumeTake 0)) world_of ((moves_of told).failed part is);
+      calls = calls_of;
       crash = crash_of;
       finds = λ told. tt;
     }

@@ -7,6 +7,7 @@ use Rattle.ls_board.specs.declared.world.World.{World}
 use Rattle.ls_board.specs.Acts.{Sight}
 use Rattle.ls_board.specs.Keeping.{Keeps}
 use Rattle.ls_board.specs.Runs.{LeavesOnly}
+use Rattle.ls_chain.specs.Calling.{CallsAtMost}
 use Rattle.ls_chain.specs.declared.fault.Spot.{Spot}
 use Rattle.ls_chain.specs.declared.fault.ChainFault.{ChainFault}
 use Rattle.ls_chain.specs.declared.fault.ChainFault.TheVariants.{Corrupt, Failed, Memory}
@@ -21,6 +22,7 @@ pub record Learns {T : Type 0} (a : Option Action) (look : World → T) (old : S
   pub keeps : Keeps {T = T} {E = BoardFault} BoardFailed old new result
   pub done : IsTrue old.told → OnOk result (new.world ≡ after_asked old.world a)
   pub left : IsTrue old.told → (new.world ≡ old.world) ⊎ (new.world ≡ after_asked old.world a)
+  pub calls : IsTrue old.told → CallsAtMost a old new
   pub crash : IsTrue old.told → LeavesOnly old new (LeavesAsked old.world a)
   pub finds : IsTrue old.told → IfOk result (λ t. t ≡ look old.world)
 

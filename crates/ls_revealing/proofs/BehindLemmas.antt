@@ -13,6 +13,7 @@ use Rattle.ls_chain.specs.declared.fault.ChainFault.TheVariants.{Corrupt, Failed
 use Rattle.ls_chain.specs.Links.{next_of}
 use Rattle.ls_chain.specs.Looking.{Finds, Looks}
 use Rattle.ls_chain.specs.Trying.{MayTry, OnAnswer, after_asked, LeavesAsked}
+use Rattle.ls_chain.proofs.CallingLemmas.{calls_both, reads_at_most}
 use Rattle.ls_chain.proofs.LookLemmas.{kept_both}
 
 -- an image of the world behind the device is one that its action may leave
@@ -58,6 +59,7 @@ module _ {A B : Type 0} (ask : World → Option Action) (look : World → Result
   tried_err e first = record {
     keeps = kept_err old mid e first.keeps;
     asked = λ told. asked_err e (mid.world ≡ after_asked old.world (ask old.world)) (first.asked told);
+    calls = first.calls;
     crash = first.crash;
     finds = λ told. finds_err e (first.finds told);
   }
@@ -68,6 +70,7 @@ module _ {A B : Type 0} (ask : World → Option Action) (look : World → Result
   tried_look behind stays new a r first second = record {
     keeps = kept_both old mid new a r first.keeps second.keeps;
     asked = λ told. on_all r (new.world ≡ after_asked old.world (ask old.world)) (second.same (still told) ∙ first.asked told);
+    calls = λ told. calls_both (ask old.world) old mid new (first.calls told) (reads_at_most (ask old.world) mid new (second.calls (still told)));
     crash = λ told. joins old mid new (LeavesAsked old.world (ask old.world)) (first.crash told)
         (weaker mid new (Leaves mid.world) (LeavesAsked old.world (ask old.world))
         (λ image left. behind old.world image (subst (λ (w : World). Leaves w image) (first.asked told) left)) (second.crash (still told)));
