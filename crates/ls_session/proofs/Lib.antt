@@ -4,3 +4,4 @@ mod KeepLemmas
 mod KnownLemmas
 mod BeginLemmas
 mod OpeningLemmas
+mod OnceLemmas

@@ -1,7 +1,7 @@
 -- Opening, from its parts.
 use Rattle.std.proofs.Common.{◌≡◌, ◌≢◌, ⊎_elim, inl, inr, ◌≤◌, ℕ, Bool, true, false, IsTrue, List, [], ◌∷◌, length, Option, None, Some, refl, sym, ◌∙◌, ap, subst, arith}
 use Rattle.std.specs.Prelude.{◌==◌, Result, Ok, Err, OnOk, map, filter, is_some}
-use Rattle.std.specs.List.{Contains, AllZip, flat_map}
+use Rattle.std.specs.List.{Contains, AllZip}
 use Rattle.std.specs.Option.{option_and_then}
 use Rattle.ls_board.specs.declared.action.Action.{Action}
 use Rattle.ls_board.specs.declared.action.Action.TheVariants.{Sync}
@@ -50,11 +50,13 @@ use Rattle.ls_sweep.specs.Swept.{Sweeps}
 use Rattle.ls_turn.specs.declared.session.Session.{Session}
 use Rattle.ls_turn.specs.Agreeing.{Agrees, AreNamed, parts_in}
 use Rattle.ls_turn.specs.Fresh.{IsFresh, opened_state}
-use Rattle.ls_turn.specs.Serving.{CanServe, IsKeptAs}
+use Rattle.ls_turn.specs.Serving.{CanServe, IsKeptAs, KeepOnce, KeepApart}
+use Rattle.ls_turn.proofs.FreshLemmas.{none_left, none_retired}
 use Rattle.ls_protector.specs.Parts.{parts_of}
 use Rattle.ls_session.specs.Checking.{Checks}
 use Rattle.ls_session.specs.Opening.{Begins, Opens, IsFirstFault, synced_world}
 use Rattle.ls_session.proofs.KeepLemmas.{no_weaver, its_file, has_place}
+use Rattle.ls_session.proofs.OnceLemmas.{kept_once, kept_apart}
 
 -- ---- answers of calls in a row
 
@@ -432,10 +434,15 @@ module _ (old mid far new : Sight) (boot : ℕ) (l : Loaded) (begins : Begins ol
     only = λ q within.
         let of = zip_back mid.slots (named_protectors l.settled.rec) items kept q (subst (λ (l : List Parts). Contains l q) its within) in
         (of.0, subst (λ (s : Loaded). NamesProtector s.settled.rec of.0) (sym settings) of.1, subst (λ (m : ℕ). IsKeptAs m of.0 q) at_slots of.2);
+    once = subst KeepOnce (sym its) (kept_once mid.slots l.settled.rec keeps items kept);
+    names = none_left x fresh.retired;
     ready = λ told. subst (IsReady new.world) (sym settings) (ready_new (was_told told));
     numbers = λ told p within k held. subst (λ (q : List Parts). Contains q (parts_of true p (Some k))) (sym its)
         (with_number (was_told told) p (subst (λ (s : Loaded). NamesProtector s.settled.rec p) settings within) k held);
-    retired = λ told m within. absurd (none_in m (subst (λ (q : List Parts). Contains (flat_map (λ p. p.names) q) m) fresh.retired within));
+    apart = λ told.
+        let there = is_mid (was_told told) in
+        subst KeepApart (sym its) (kept_apart mid.world l.settled.rec keeps (checks.none there) items (found there));
+    retired = λ told. none_retired new.world x.settings.settled.rec x fresh.retired;
     pending = λ user. subst (λ (q : List Pending). length (filter (λ p. p.user == user) q) ≤ 8) (sym fresh.pending) (omega arith);
   }
 

@@ -1,7 +1,6 @@
 -- A command that goes on behind calls which keep all that a session knows.
-use Rattle.std.proofs.Common.{◌≡◌, ◌≢◌, ◌≤◌, ◌⊎◌, inl, ⊎_elim, ◌∷◌, ℕ, zero, suc, replicate, Bool, IsTrue, List, [], None, Some, refl, sym, ◌∙◌, ap, subst}
+use Rattle.std.proofs.Common.{◌≡◌, ◌≢◌, ◌≤◌, ◌⊎◌, inl, ⊎_elim, ℕ, Bool, IsTrue, List, None, Some, refl, sym, ◌∙◌, ap, subst}
 use Rattle.std.specs.Prelude.{Result, Ok, Err, IfOk, OnOk}
-use Rattle.std.specs.List.{AllByRecursion}
 use Rattle.ls_board.specs.declared.action.Action.{Action}
 use Rattle.ls_board.specs.declared.action.Action.TheVariants.{Now, Draw}
 use Rattle.ls_board.specs.declared.action.Answer.{Answer}
@@ -32,6 +31,7 @@ use Rattle.ls_turn.specs.declared.stop.Cause.TheVariants as cause
 use Rattle.ls_turn.specs.declared.stop.Stop.{Stop}
 use Rattle.ls_turn.specs.declared.stop.Stop.TheVariants.{Fault, Memory, Stopped}
 use Rattle.ls_turn.specs.Agreeing.{Agrees, retired_files}
+use Rattle.ls_turn.proofs.InsideLemmas.{call_inside, reads_inside, room_inside}
 use Rattle.ls_turn.specs.Serving.{Turned, IsBetween, IsTurn, KeepsStrange, MeetsFair, StandsSomehow, StaysBare, Serves, stage_in, stopped_by, vault_after}
 use Rattle.ls_turn.proofs.StoredLemmas.{KeepsStorage, storage_refl, storage_trans, now_stores, draw_stores, stored_durably, stored_bare, stored_strange, stored_agrees}
 
@@ -55,13 +55,13 @@ pub record KeepsSession (old new : Sight) : Type 0 where
   pub storage : IsTrue old.told → KeepsStorage old.world new.world
   pub crash : IsTrue old.told → LeavesOnly old new (LeavesStored old.world)
 
-silent-refl : (w : World) → IsSilent w w
+pub silent-refl : (w : World) → IsSilent w w
 silent-refl w = record { said = refl; input = refl }
 
-silent-trans : (u v w : World) → IsSilent u v → IsSilent v w → IsSilent u w
+pub silent-trans : (u v w : World) → IsSilent u v → IsSilent v w → IsSilent u w
 silent-trans u v w one two = record { said = two.said ∙ one.said; input = two.input ∙ one.input }
 
-left_stored : (w image : World) → Leaves w image → LeavesStored w image
+pub left_stored : (w image : World) → Leaves w image → LeavesStored w image
 left_stored w image left = record { met = w; storage = storage_refl w; silent = silent-refl w; left = left }
 
 stored_behind : (u w image : World) → KeepsStorage u w → IsSilent u w → LeavesStored w image → LeavesStored u image
@@ -111,7 +111,7 @@ keeps_room old new actions bytes result room = record {
   never_fails = ap (λ (s : Sight). s.never_fails) room.same;
   slots = ap (λ (s : Sight). s.slots) room.same;
   faults = ap (λ (s : Sight). s.faults) room.same;
-  inside = λ told. record { calls = []; since = ap (λ (s : Sight). s.past) room.same; each = tt };
+  inside = λ told. room_inside old new actions bytes result room;
   silent = λ told. record { said = ap (λ (s : Sight). s.world.said) room.same; input = ap (λ (s : Sight). s.world.input) room.same };
   storage = λ told. subst (λ (w : World). KeepsStorage old.world w) (sym (ap (λ (s : Sight). s.world) room.same)) (storage_refl old.world);
   crash = λ told. readied old old new (LeavesStored old.world) actions bytes result (started old (LeavesStored old.world) (left_stored old.world)) room;
@@ -119,15 +119,9 @@ keeps_room old new actions bytes result room = record {
 
 -- ---- calls that only read
 
-reads_inside : (w : World) (n : ℕ) → AllByRecursion IsInside (replicate n (w, None))
-reads_inside w zero = tt
-reads_inside w (suc n) = (record { no_hear = λ max is. cc; no_say = λ bytes is. cc }, reads_inside w n)
-
 module _ {T : Type 0} (P : World → T → Type 0) (old new : Sight) (result : Result T BoardFault) (reads : Reads P old result new) where
   reading_inside : IsTrue old.told → StaysInside old new
-  reading_inside told =
-      let only = reads.calls told in
-      record { calls = replicate only.count (old.world, None); since = only.past; each = reads_inside old.world only.count }
+  reading_inside told = reads_inside old new (reads.calls told)
 
   reading_silent : IsTrue old.told → IsSilent old.world new.world
   reading_silent told = subst (λ (w : World). IsSilent old.world w) (sym (reads.same told)) (silent-refl old.world)
@@ -161,7 +155,7 @@ taking_call w a is = absurd is
 
 module _ (old new : Sight) (a : Action) (result : Result Answer BoardFault) (out : List ℕ) (is : IsTaking a) (m : Moves old a result out new) where
   taking_inside : StaysInside old new
-  taking_inside = record { calls = (old.world, changing a) ∷ []; since = m.past; each = (taking_call old.world a is, tt) }
+  taking_inside = call_inside old new a result out (λ w. taking_call w a is) m
 
   taking_storage : KeepsStorage old.world new.world
   taking_storage =
@@ -227,9 +221,9 @@ module _ (old new : Sight) (x y : Session) (turn : Stage → Turned) (fair : Wor
       (λ image. left_between_stored old.world image x s (vault_after turn old.world s) agrees) crash
 
   pub stops : (stop : Stop) → ((c : Cause) → stop ≢ Stopped c) → y.slots ≡ x.slots → y.boot ≡ x.boot → y.stopped ≡ stopped_by stop x.stopped
-      → Keeps {T = Reply} {E = Stop} Fault old new (Err stop) → (IsTrue old.told → IsSilent old.world new.world)
+      → Keeps {T = Reply} {E = Stop} Fault old new (Err stop) → (IsTrue old.told → IsSilent old.world new.world) → (IsTrue old.told → StaysInside old new)
       → (IsTrue old.told → LeavesOnly old new (LeavesStored old.world)) → Serves old x turn fair (Err stop) y new
-  stops stop fresh slots boot stopped keeps silent crash = record {
+  stops stop fresh slots boot stopped keeps silent inside crash = record {
     keeps = keeps;
     slots = slots;
     boot = boot;
@@ -238,7 +232,7 @@ module _ (old new : Sight) (x y : Session) (turn : Stage → Turned) (fair : Wor
     can = tt;
     few = tt;
     silent = silent;
-    inside = λ told. tt;
+    inside = inside;
     strange = λ told. tt;
     crash = λ told s agrees fairly. between_stored s agrees (crash told);
     done = λ told s agrees fairly. tt;
@@ -260,7 +254,7 @@ module _ (old new : Sight) (x y : Session) (turn : Stage → Turned) (fair : Wor
           quiet = tt;
           other = λ e at apart. absurd (apart p (sym (same_stop e at)));
           cause = λ q at. subst (λ (r : Part). Rose (old.faults r) (new.faults r)) (same_part q at) (failed.cause p refl).1;
-        }) (λ told. taking_silent old new a (Err (Failed p)) out is (failed.moves told)) (λ told. taking_crash old new a (Err (Failed p)) out is (failed.moves told))
+        }) (λ told. taking_silent old new a (Err (Failed p)) out is (failed.moves told)) (λ told. taking_inside old new a (Err (Failed p)) out is (failed.moves told)) (λ told. taking_crash old new a (Err (Failed p)) out is (failed.moves told))
       where
         same_stop : (e : Stop) → ◌≡◌ {A = Result Reply Stop} (Err (Fault p)) (Err e) → Fault p ≡ e
         same_stop e at = cc
@@ -279,7 +273,7 @@ module _ (old new : Sight) (x y : Session) (turn : Stage → Turned) (fair : Wor
           quiet = tt;
           other = λ e at apart. (lacked.memory refl).1;
           cause = λ q at. absurd (cc);
-        }) (λ told. taking_silent old new a (Err Lacking) out is (lacked.moves told)) (λ told. taking_crash old new a (Err Lacking) out is (lacked.moves told))
+        }) (λ told. taking_silent old new a (Err Lacking) out is (lacked.moves told)) (λ told. taking_inside old new a (Err Lacking) out is (lacked.moves told)) (λ told. taking_crash old new a (Err Lacking) out is (lacked.moves told))
 
     -- a reading failed
     pub reading_failed : {T : Type 0} (P : World → T → Type 0) (p : Part) → Reads P old (Err (Failed p)) new → y.stopped ≡ Some (cause.Fault p) → Serves old x turn fair (Err (Fault p)) y new
@@ -292,7 +286,7 @@ module _ (old new : Sight) (x y : Session) (turn : Stage → Turned) (fair : Wor
           quiet = tt;
           other = λ e at apart. absurd (apart p (sym (same_stop e at)));
           cause = λ q at. subst (λ (r : Part). Rose (old.faults r) (new.faults r)) (same_part q at) (reads.keeps.cause p refl);
-        }) (reading_silent P old new (Err (Failed p)) reads) (reading_crash P old new (Err (Failed p)) reads)
+        }) (reading_silent P old new (Err (Failed p)) reads) (reading_inside P old new (Err (Failed p)) reads) (reading_crash P old new (Err (Failed p)) reads)
       where
         same_stop : (e : Stop) → ◌≡◌ {A = Result Reply Stop} (Err (Fault p)) (Err e) → Fault p ≡ e
         same_stop e at = cc
@@ -311,7 +305,7 @@ module _ (old new : Sight) (x y : Session) (turn : Stage → Turned) (fair : Wor
           quiet = tt;
           other = λ e at apart. reads.keeps.other Lacking refl (λ p is. cc);
           cause = λ q at. absurd (cc);
-        }) (reading_silent P old new (Err Lacking) reads) (reading_crash P old new (Err Lacking) reads)
+        }) (reading_silent P old new (Err Lacking) reads) (reading_inside P old new (Err Lacking) reads) (reading_crash P old new (Err Lacking) reads)
 
 -- ---- a command that goes on
 
@@ -368,7 +362,7 @@ module _ (old mid new : Sight) (x y : Session) (turn then : Stage → Turned) (f
     can = serves.can;
     few = serves.few;
     silent = λ told. silent-trans old.world mid.world new.world (kept.silent told) (serves.silent (told_mid told));
-    inside = λ told. on_map result (inside-trans old mid new (kept.inside told)) (serves.inside (told_mid told));
+    inside = λ told. inside-trans old mid new (kept.inside told) (serves.inside (told_mid told));
     strange = λ told. on_map result
         (λ (later : KeepsStrange mid.world new.world) n strange. later n strange ∙ stored_strange old.world mid.world (kept.storage told) n strange)
         (serves.strange (told_mid told));

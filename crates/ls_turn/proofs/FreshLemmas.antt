@@ -22,15 +22,26 @@ use Rattle.ls_vault.specs.declared.vault.Vault.{Vault}
 use Rattle.ls_vault.specs.Limits.{most_tokens}
 use Rattle.ls_turn.specs.declared.session.Session.{Session}
 use Rattle.ls_turn.specs.declared.session.Pending.{Pending}
-use Rattle.ls_turn.specs.Agreeing.{Agrees, AreNamed, files_of, pending_token, retired_files, users_in}
+use Rattle.ls_turn.specs.Agreeing.{Agrees, AreNamed, ArePartNames, files_of, pending_token, retired_files, users_in}
 use Rattle.ls_turn.specs.Fresh.{IsFresh, HasZeros, empty_vault, empty_world, nothing_loaded, opened_state}
-use Rattle.ls_turn.specs.Serving.{CanServe}
+use Rattle.ls_turn.specs.Serving.{CanServe, KeepOnce, KeepApart}
 
 nothing_in : {X : Type 0} (xs : List X) (x : X) → xs ≡ [] → Contains xs x → ⊥
 nothing_in xs x none has = none_in x (subst (λ l. Contains l x) none has)
 
-none_retired : (w : World) (r : Rec) (x : Session) → x.retired.items ≡ [] → AreUnnamed w r (retired_files x)
+pub none_retired : (w : World) (r : Rec) (x : Session) → x.retired.items ≡ [] → AreUnnamed w r (retired_files x)
 none_retired w r x none n has = absurd (nothing_in (retired_files x) n (ap files_of none) has)
+
+-- a session that has retired nothing has left no file
+pub none_left : (x : Session) → x.retired.items ≡ [] → ArePartNames (retired_files x)
+none_left x none n has = absurd (nothing_in (retired_files x) n (ap files_of none) has)
+
+-- one that names nothing keeps each protector once, and no slot of two
+pub none_twice : (x : Session) → x.named.items ≡ [] → KeepOnce x.named.items
+none_twice x none = subst KeepOnce (sym none) tt
+
+pub none_shared : (x : Session) → x.named.items ≡ [] → KeepApart x.named.items
+none_shared x none = subst KeepApart (sym none) tt
 
 pub fresh_agrees : (w : World) (x : Session) (boot slots : ℕ) (v : Vault) → IsFresh boot slots x → length w.slots ≡ slots → IsRecord x.settings.settled.rec
     → StandsDurably w x.settings.settled v → IsReady w x.settings → AreNamed w x.settings.settled.rec x.named.items → Agrees w x (opened_state w x.settings.settled boot v)
@@ -109,7 +120,7 @@ module _ (x : Session) (loaded : x.settings ≡ nothing_loaded) where
         only = λ q has. absurd (nothing_in x.named.items q named has);
       }))
 
-  none_pending : (user : ℕ) (pending : List Pending) → pending ≡ [] → length (filter (λ p. p.user == user) pending) ≤ most_tokens
+  pub none_pending : (user : ℕ) (pending : List Pending) → pending ≡ [] → length (filter (λ p. p.user == user) pending) ≤ most_tokens
   none_pending user pending none = subst (λ (l : List Pending). length (filter (λ p. p.user == user) l) ≤ most_tokens) (sym none) (omega arith)
 
   pub empty_can : (b : Sight) (boot : ℕ) → IsFresh boot b.slots x → x.named.items ≡ [] → (IsTrue b.told → HasZeros b.world × AreUntouched b.world) → CanServe b x
@@ -118,8 +129,11 @@ module _ (x : Session) (loaded : x.settings ≡ nothing_loaded) where
     slots = fresh.slots_are;
     each = λ p has. absurd (no_protector p has);
     only = λ q has. absurd (nothing_in x.named.items q named has);
+    once = none_twice x named;
+    names = none_left x fresh.retired;
     ready = λ told. let e = empty told in subst (IsReady b.world) (sym loaded) (empty_ready b.world e.0 e.1);
     numbers = λ told p has. absurd (no_protector p has);
+    apart = λ told. none_shared x named;
     retired = λ told. none_retired b.world x.settings.settled.rec x fresh.retired;
     pending = λ user. none_pending user x.pending.items fresh.pending;
   }

@@ -1,6 +1,7 @@
 -- A change of the vault, as a turn of the machine.
 use Rattle.std.proofs.Common.{◌≡◌, ◌≢◌, ◌++◌, inl, inr, ⊎_elim, ◌≤◌, ℕ, Bool, IsTrue, None, Some, refl, sym, ◌∙◌, ap, subst, arith}
 use Rattle.std.specs.Prelude.{Result, Ok, Err, OnOk}
+use Rattle.std.specs.List.{AllByRecursion}
 use Rattle.ls_board.specs.declared.action.Part.{Part}
 use Rattle.ls_board.specs.declared.world.World.{World}
 use Rattle.ls_board.specs.Acts.{Sight, Rose}
@@ -8,7 +9,7 @@ use Rattle.ls_board.specs.Acts as acts
 use Rattle.ls_board.specs.Keeping.{Keeps}
 use Rattle.ls_board.specs.Reach.{AllTouchOnly}
 use Rattle.ls_board.specs.Rest.{SameRest}
-use Rattle.ls_board.specs.Runs.{LeavesOnly, Did, after_all}
+use Rattle.ls_board.specs.Runs.{LeavesOnly, Did, FailedIn, after_all}
 use Rattle.ls_board.proofs.RunLemmas.{started, weaker, readied}
 use Rattle.ls_naming.specs.Current.{Settled, last_sequence}
 use Rattle.ls_protector.specs.Clear.{AreUnnamed}
@@ -18,6 +19,7 @@ use Rattle.ls_script.specs.declared.reply.Reply.TheVariants.{Fine}
 use Rattle.ls_sealing.specs.Protectors.{Protector, held_number}
 use Rattle.ls_serving.specs.Calls.{IsSilent}
 use Rattle.ls_serving.specs.Turns.{StaysInside}
+use Rattle.ls_serving.proofs.TurnLemmas.{inside-trans}
 use Rattle.ls_settings.specs.Loaded.{Loaded, IsReady, settings_reach}
 use Rattle.ls_standing.specs.Bare.{IsBare}
 use Rattle.ls_standing.specs.Books.{books}
@@ -37,7 +39,7 @@ use Rattle.ls_turn.specs.declared.stop.Stop.TheVariants.{Fault, Memory, Stopped}
 use Rattle.ls_turn.specs.Agreeing.{Agrees, AreNamed, retired_files}
 use Rattle.ls_turn.specs.Serving.{Turned, CanServe, IsBetween, IsTurn, KeepsStrange, StaysBare, Serves, Always, stage_in, vault_after}
 use Rattle.ls_turn.specs.Working.{Commits, KeepsNamed, LeavesKept}
-use Rattle.ls_turn.proofs.InsideLemmas.{all_mute, mute_append, plan_inside}
+use Rattle.ls_turn.proofs.InsideLemmas.{IsMute, all_mute, mute_append, plan_inside, failed_inside, room_inside}
 use Rattle.ls_turn.proofs.StillLemmas.{left_between}
 
 -- ---- no room
@@ -76,7 +78,7 @@ module _ (old mid : Sight) (x y : Session) (turn : Stage → Turned) (fair : Wor
           said = ap (λ (s : Sight). s.world.said) room.same;
           input = ap (λ (s : Sight). s.world.input) room.same;
         };
-        inside = λ told. tt;
+        inside = λ told. room_inside old mid actions bytes result room;
         strange = λ told. tt;
         crash = λ told s agrees fairly.
             let P = IsBetween old.world s.vault (vault_after turn old.world s) in
@@ -98,7 +100,7 @@ too_heavy old x y turn slots boot stopped = gave_up old old x y turn Always slot
 
 -- ---- the change
 
-during_between : (w image : World) (from to : Settled) (old new : Vault) → IsDuring w from to old new image → IsBetween w old new image
+pub during_between : (w image : World) (from to : Settled) (old new : Vault) → IsDuring w from to old new image → IsBetween w old new image
 during_between w image from to old new d = record {
   either = ⊎_elim (λ (is : StandsDurably image from old). inl (from, is)) (λ (is : StandsDurably image to new). inr (to, is)) d.either;
   silent = record { said = ap (λ (v : World). v.said) d.rest.is; input = ap (λ (v : World). v.input) d.rest.is };
@@ -152,20 +154,28 @@ module _ (old mid new : Sight) (x : Session) (k : Work) (turn : Stage → Turned
       input = ap (λ (w : World). w.input) (rest_here told).is;
     }
 
+    -- none of its actions is a hearing or a saying
+    work_mute : IsQuietWork old.world x.settings k → AllTouchOnly settings_reach k.commit.actions → AllByRecursion IsMute (actions_of k)
+    work_mute quiet commits =
+        mute_append k.before (k.commit.actions ++ k.after) (all_mute (unnamed old.world x.settings.settled.rec) k.before quiet.before)
+        (mute_append k.commit.actions k.after (all_mute settings_reach k.commit.actions commits)
+        (all_mute (unnamed (staged old.world k) (next_of k)) k.after quiet.after))
+
     -- it failed
     pub work_failed : {T : Type 0} (y : Session) (part : Part) → y.slots ≡ x.slots → y.boot ≡ x.boot → y.stopped ≡ Some (cause.Fault part)
+        → (IsTrue old.told → IsQuietWork old.world x.settings k) → AllTouchOnly settings_reach k.commit.actions → FailedIn mid (actions_of k) part new
         → Keeps {T = T} {E = Part} (λ p. p) mid new (Err part) → IsCrash → Serves old x turn Always (Err (Fault part)) y new
-    work_failed {T} y part slots boot stopped keeps crash =
-        let k = keeps_here {T = T} (Err part) keeps in
+    work_failed {T} y part slots boot stopped quiet commits failed keeps crash =
+        let kept = keeps_here {T = T} (Err part) keeps in
         record {
           keeps = record {
-            told = k.told;
-            never_fails = k.never_fails;
-            slots = k.slots;
-            later = k.later;
+            told = kept.told;
+            never_fails = kept.never_fails;
+            slots = kept.slots;
+            later = kept.later;
             quiet = tt;
             other = λ e is apart. absurd (apart part (sym (same_stop e is)));
-            cause = λ p is. subst (λ (q : Part). Rose (old.faults q) (new.faults q)) (same_part p is) (k.cause part refl);
+            cause = λ p is. subst (λ (q : Part). Rose (old.faults q) (new.faults q)) (same_part p is) (kept.cause part refl);
           };
           slots = slots;
           boot = boot;
@@ -174,7 +184,9 @@ module _ (old mid new : Sight) (x : Session) (k : Work) (turn : Stage → Turned
           can = tt;
           few = tt;
           silent = silent_here;
-          inside = λ told. tt;
+          inside = λ told.
+              inside-trans old mid new (room_inside old mid actions bytes made room)
+              (failed_inside (actions_of k) part mid new (work_mute (quiet told) commits) failed (told_there told));
           strange = λ told. tt;
           crash = λ told s agrees fairly. work_crash crash told s agrees;
           done = λ told s agrees fairly. tt;
@@ -197,11 +209,8 @@ module _ (old mid new : Sight) (x : Session) (k : Work) (turn : Stage → Turned
 
       work_inside : IsTrue old.told → IsQuietWork old.world x.settings k → AllTouchOnly settings_reach k.commit.actions → StaysInside old new
       work_inside told quiet commits =
-          let mute = mute_append k.before (k.commit.actions ++ k.after) (all_mute (unnamed old.world x.settings.settled.rec) k.before quiet.before)
-          (mute_append k.commit.actions k.after (all_mute settings_reach k.commit.actions commits)
-          (all_mute (unnamed (staged old.world k) (next_of k)) k.after quiet.after)) in
-          let there : StaysInside mid new = plan_inside (actions_of k) mid.world mid new mute (did.past (told_there told)) in
-          record { calls = there.calls; since = there.since ∙ ap (λ (s : Sight). there.calls ++ s.past) room.same; each = there.each }
+          inside-trans old mid new (room_inside old mid actions bytes made room)
+          (plan_inside (actions_of k) mid.world mid new (work_mute quiet commits) (did.past (told_there told)))
 
       module _ (y : Session) (is : record x { settings = y.settings } ≡ y) (to : y.settings ≡ k.commit.to) where
         abbrev z : Session
@@ -224,10 +233,13 @@ module _ (old mid new : Sight) (x : Session) (k : Work) (turn : Stage → Turned
             slots = can.slots ∙ sym same_slots ∙ sym did.slots;
             each = λ p has. named.each p (named_then p has);
             only = λ q has. let o = named.only q has in (o.0, named_now o.0 o.1, o.2);
+            once = named.once;
+            names = can.names;
             ready = λ told. subst (IsReady new.world) (sym to) (ready (told_there (was_told told)));
             numbers = λ told p has n held.
                 let was = was_told told in
                 (left was).numbers p (named_then p has) n (subst (λ (w : World). held_number w p ≡ Some n) (world_there was) held);
+            apart = λ told. (left (was_told told)).apart;
             retired = λ told.
                 let was = was_told told in
                 subst (λ (s : Loaded). AreUnnamed new.world s.settled.rec (retired_files x)) (sym to)
@@ -253,7 +265,7 @@ module _ (old mid new : Sight) (x : Session) (k : Work) (turn : Stage → Turned
                 ready = subst (IsReady new.world) (sym to) (ready (told_there told));
                 books_are = subst (λ (v : Loaded). t.stage.state.books ≡ books new.world v.settled) (sym to)
                     (subst (λ (w : World). t.stage.state.books ≡ books w k.commit.to.settled) (sym there) l.books_are);
-                session = agrees.session ∙ sym l.session;
+                session = l.session;
                 opened = l.opened;
                 metrics = l.metrics;
                 captured = l.captured;

@@ -31,9 +31,9 @@ use Rattle.ls_turn.specs.declared.stop.Stop.{Stop}
 use Rattle.ls_turn.specs.declared.stop.Stop.TheVariants.{Fault, Memory, Stopped}
 use Rattle.ls_turn.specs.declared.stop.Cause.{Cause}
 use Rattle.ls_turn.specs.declared.stop.Cause.TheVariants as cause
-use Rattle.ls_turn.specs.Agreeing.{Agrees, files_of, retired_files}
+use Rattle.ls_turn.specs.Agreeing.{Agrees, ArePartNames, files_of, retired_files}
 use Rattle.ls_turn.specs.Refusing.{pending_for}
-use Rattle.ls_turn.specs.Serving.{CanServe, IsKeptAs, Turned, IsBetween, IsTurn, Serves, StaysBare, stage_in, vault_after, users_told}
+use Rattle.ls_turn.specs.Serving.{CanServe, IsKeptAs, KeepOnce, KeepApart, Turned, IsBetween, IsTurn, Serves, StaysBare, stage_in, vault_after, users_told}
 
 -- an image of the world before
 pub left_between : (w image : World) (s : Settled) (old new : Vault) → StandsDurably w s old → Leaves w image → IsBetween w old new image
@@ -97,8 +97,11 @@ module _ (old : Sight) (x y : Session) (k : HasKept x y) where
     slots = k.slots ∙ can.slots;
     each = moved Each can.each;
     only = moved Only can.only;
+    once = subst KeepOnce (sym k.named) can.once;
+    names = subst (λ (l : List Parts). ArePartNames (files_of l)) (sym k.retired) can.names;
     ready = λ told. subst (IsReady old.world) (sym k.settings) (can.ready told);
     numbers = moved (Numbers old) can.numbers;
+    apart = λ told. subst KeepApart (sym k.named) (can.apart told);
     retired = λ told. unnamed_still (can.retired told);
     pending = pending;
   }
@@ -183,7 +186,7 @@ module _ (old : Sight) (x y : Session) (turn : Stage → Turned) (fair : World �
       going = lacking_going;
       can = tt;
       few = tt;
-      inside = λ told. tt;
+      inside = λ told. no_calls;
       silent = λ told. nothing_said;
       strange = λ told. tt;
       crash = λ told s agrees fairly. left_still s agrees;

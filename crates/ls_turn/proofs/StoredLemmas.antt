@@ -160,8 +160,11 @@ stored_can old new x told slots kept can = record {
   slots = can.slots ∙ sym slots;
   each = can.each;
   only = can.only;
+  once = can.once;
+  names = can.names;
   ready = λ now. let was = was_told now in stored_ready old.world new.world (kept was) x.settings (can.ready was);
   numbers = λ now p has n held. let was = was_told now in can.numbers was p has n (held_then was p n held);
+  apart = λ now. can.apart (was_told now);
   retired = λ now. let was = was_told now in stored_unnamed old.world new.world (kept was) x.settings.settled.rec (retired_files x) (can.retired was);
   pending = can.pending;
 }

@@ -2,6 +2,7 @@
 use Rattle.std.specs.Prelude.{◌≡◌, ◌≢◌, ℕ, true, List, map, flat_map, length, None, IsSomeAnd}
 use Rattle.std.specs.List.{Contains}
 use Rattle.ls_formats.specs.declared.parts.Parts.{Parts}
+use Rattle.ls_formats.specs.PartNames.{PartOf, IsPartOf, part_name_text}
 use Rattle.ls_record.specs.Rows.{Rec, IsRecord}
 use Rattle.ls_naming.specs.Current.{last_sequence}
 use Rattle.ls_board.specs.declared.world.World.{World}
@@ -72,6 +73,11 @@ files_of parts = flat_map (λ p. p.names) parts
 -- those of the retired protectors, the oldest first
 abbrev pub retired_files : Session → List (List ℕ)
 retired_files x = files_of x.retired.items
+
+-- each is the name of a file of a protector
+abbrev pub ArePartNames : List (List ℕ) → Type 0
+ArePartNames names = (n : List ℕ) → Contains names n
+    → (name : PartOf) × IsPartOf name × (name.id ≢ 0) × (n ≡ part_name_text name)
 
 -- ---- agreeing
 

@@ -1,5 +1,5 @@
 -- What serving a command does.
-use Rattle.std.specs.Prelude.{◌≡◌, ◌≤◌, ◌<◌, ◌⊎◌, ℕ, IsTrue, List, length, Option, None, Some, is_some, MatchOption, Result, Ok, Err, IfOk, OnOk}
+use Rattle.std.specs.Prelude.{◌≡◌, ◌≢◌, ◌≤◌, ◌<◌, ◌⊎◌, ℕ, IsTrue, List, length, Option, None, Some, is_some, MatchOption, Result, Ok, Err, IfOk, OnOk}
 use Rattle.std.specs.List.{Contains}
 use Rattle.ls_board.specs.declared.world.World.{World}
 use Rattle.ls_board.specs.Acts.{Sight}
@@ -8,6 +8,7 @@ use Rattle.ls_board.specs.Keeping.{Keeps}
 use Rattle.ls_board.specs.Runs.{LeavesOnly}
 use Rattle.ls_formats.specs.declared.parts.Parts.{Parts}
 use Rattle.ls_naming.specs.Current.{Settled}
+use Rattle.ls_record.specs.Rows.{Pairs}
 use Rattle.ls_script.specs.declared.command.Command.{Command}
 use Rattle.ls_script.specs.declared.reply.Reply.{Reply}
 use Rattle.ls_script.specs.declared.reply.Reply.TheVariants as reply
@@ -30,7 +31,7 @@ use Rattle.ls_turn.specs.declared.stop.Cause.{Cause}
 use Rattle.ls_turn.specs.declared.stop.Cause.TheVariants as cause
 use Rattle.ls_turn.specs.declared.stop.Stop.{Stop}
 use Rattle.ls_turn.specs.declared.stop.Stop.TheVariants.{Fault, Memory, Stopped}
-use Rattle.ls_turn.specs.Agreeing.{Agrees, retired_files}
+use Rattle.ls_turn.specs.Agreeing.{Agrees, ArePartNames, retired_files}
 use Rattle.ls_turn.specs.Refusing.{pending_for}
 
 -- ---- what a call asks
@@ -44,6 +45,14 @@ abbrev pub IsKeptAs : ℕ → Protector → Parts → Type 0
 IsKeptAs slots p q =
     (slot : Option ℕ) × FitsBoard slots slot × (q ≡ parts_of (is_some slot) p slot)
 
+-- each of these is another protector
+abbrev pub KeepOnce : List Parts → Type 0
+KeepOnce parts = Pairs (λ p q. p.id ≢ q.id) parts
+
+-- no slot is that of two of them
+abbrev pub KeepApart : List Parts → Type 0
+KeepApart parts = Pairs (λ p q. (n : ℕ) → p.slot ≡ Some n → q.slot ≢ Some n) parts
+
 -- What a call of the session asks, and leaves so where it doesn't stop. There is no vault in it: it is
 -- known in every world, also in one that stands for none.
 pub record CanServe (b : Sight) (x : Session) : Type 0 where
@@ -54,12 +63,16 @@ pub record CanServe (b : Sight) (x : Session) : Type 0 where
       → (q : Parts) × Contains x.named.items q × IsKeptAs x.slots p q
   pub only : (q : Parts) → Contains x.named.items q
       → (p : Protector) × NamesProtector x.settings.settled.rec p × IsKeptAs x.slots p q
+  pub once : KeepOnce x.named.items
+  -- What was retired has left files of protectors.
+  pub names : ArePartNames (retired_files x)
   -- Where the world is told: the settings are those of the files, loading would make none and none is
-  -- touched; of each named `weaver` file that is one the slot is kept; and no file that was retired is
-  -- a settings file or named.
+  -- touched; of each named `weaver` file that is one the slot is kept, and no slot is kept of
+  -- two; and no file that was retired is a settings file or named.
   pub ready : IsTrue b.told → IsReady b.world x.settings
   pub numbers : IsTrue b.told → (p : Protector) → NamesProtector x.settings.settled.rec p
       → (n : ℕ) → held_number b.world p ≡ Some n → Contains x.named.items (parts_of (is_some (Some n)) p (Some n))
+  pub apart : IsTrue b.told → KeepApart x.named.items
   pub retired : IsTrue b.told → AreUnnamed b.world x.settings.settled.rec (retired_files x)
   -- No user has more pending tokens than tokens may be.
   pub pending : (user : ℕ) → length (pending_for x user) ≤ most_tokens
@@ -159,7 +172,7 @@ pub record Serves (old : Sight) (x : Session) (turn : Stage → Turned) (fair : 
   pub few : IfOk result (λ r. users_told r ≤ 16)
   -- Nothing is said or heard, and what isn't the service's own stays.
   pub silent : IsTrue old.told → IsSilent old.world new.world
-  pub inside : IsTrue old.told → OnOk result (StaysInside old new)
+  pub inside : IsTrue old.told → StaysInside old new
   pub strange : IsTrue old.told → OnOk result (KeepsStrange old.world new.world)
   -- At each moment, and within each call, a crash leaves the vault before or after.
   pub crash : IsTrue old.told → (s : State) → Agrees old.world x s → MeetsFair fair old new s

@@ -19,8 +19,8 @@ use Rattle.ls_change.specs.Work.{Readies, actions_of, next_of}
 use Rattle.ls_protector.specs.Clear.{AreUnnamed}
 use Rattle.ls_protector.specs.Parts.{parts_of}
 use Rattle.ls_turn.specs.declared.session.Session.{Session}
-use Rattle.ls_turn.specs.Agreeing.{Agrees, AreNamed, HaveSecrets, HaveMetrics, files_of, retired_files}
-use Rattle.ls_turn.specs.Serving.{Turned, IsKeptAs, KeepsStrange, stage_in}
+use Rattle.ls_turn.specs.Agreeing.{Agrees, AreNamed, HaveSecrets, HaveMetrics, files_of, retired_files, session_of}
+use Rattle.ls_turn.specs.Serving.{Turned, IsKeptAs, KeepOnce, KeepApart, KeepsStrange, stage_in}
 
 -- the actions that the code adds may be asked of any board with so many slots
 pub record IsSoundWork (slots : ℕ) (k : Work) : Type 0 where
@@ -33,24 +33,27 @@ pub record KeepsNamed (slots : ℕ) (k : Work) (named : List Parts) : Type 0 whe
       → (q : Parts) × Contains named q × IsKeptAs slots p q
   pub only : (q : Parts) → Contains named q
       → (p : Protector) × NamesProtector (next_of k) p × IsKeptAs slots p q
+  pub once : KeepOnce named
 
 -- In a told world: of each `weaver` file that the next record names and that is one the slot is kept,
--- no file that was retired is named, and each file outside the grammar is as it was.
+-- no slot is kept of two, no file that was retired is named, and each file outside the grammar is as it was.
 pub record LeavesKept (w : World) (k : Work) (named retired : List Parts) : Type 0 where
   pub numbers : (p : Protector) → NamesProtector (next_of k) p → (n : ℕ)
       → held_number (after_all w (actions_of k)) p ≡ Some n
       → Contains named (parts_of (is_some (Some n)) p (Some n))
+  pub apart : KeepApart named
   pub are_retired : AreUnnamed (after_all w (actions_of k)) (next_of k) (files_of retired)
   pub strange : KeepsStrange w (after_all w (actions_of k))
 
 -- The change leads to what the machine answers: `Fine`, with another vault, and one change more kept.
--- x is the session before it; behind it these protectors are named, and these are retired.
+-- x is the session that commits it, with what it knows of users then; behind it these protectors are
+-- named, and these are retired.
 pub record LeadsTo (w : World) (x : Session) (named retired : List Parts) (k : Work) (s : State)
     (t : Turned) : Type 0 where
   pub reply : t.reply ≡ Fine
   pub keeps : IsRecord (next_of k)
   pub readies : Readies w k t.stage.state.vault
-  pub session : t.stage.state.session ≡ s.session
+  pub session : session_of x ≡ t.stage.state.session
   pub books_are : t.stage.state.books
       ≡ books (after_all w (actions_of k)) k.commit.to.settled
   pub moments : t.stage.moments ≡ w.moments

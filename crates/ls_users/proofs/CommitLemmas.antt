@@ -49,7 +49,7 @@ use Rattle.ls_turn.specs.declared.session.Session.{Session}
 use Rattle.ls_turn.specs.declared.session.Opened.{Opened}
 use Rattle.ls_turn.specs.Agreeing.{Agrees, AreNamed, HaveMetrics, HaveSecrets, retired_files}
 use Rattle.ls_turn.specs.Refusing.{row_of}
-use Rattle.ls_turn.specs.Serving.{CanServe, Turned, turned, stage_in}
+use Rattle.ls_turn.specs.Serving.{CanServe, KeepApart, Turned, turned, stage_in}
 use Rattle.ls_turn.specs.Working.{Commits, IsSoundWork, KeepsNamed, LeadsTo, LeavesKept}
 use Rattle.ls_turn.proofs.RowLemmas.{row_found, user_there}
 use Rattle.ls_users.specs.Pins.{shown_pin}
@@ -105,6 +105,7 @@ module _ (x : Session) (k : Work) (user : ℕ) (row : UserRow) (found : row_of x
   pin_named b can = record {
     each = λ p has. can.each p (back p has);
     only = λ q has. let o = can.only q has in (o.0, on_next o.0 o.1, o.2);
+    once = can.once;
   }
 
   module _ (commits : AllTouchOnly settings_reach k.commit.actions) (w : World) where
@@ -127,9 +128,10 @@ module _ (x : Session) (k : Work) (user : ℕ) (row : UserRow) (found : row_of x
     unnamed_next was = subst (λ (z : Rec). AreUnnamed after z (retired_files x)) (sym puts.next) (unnamed_on r is row here on pin w after but (retired_files x) was)
 
     pub pin_left : ((p : Protector) → NamesProtector r p → (n : ℕ) → held_number w p ≡ Some n → Contains x.named.items (parts_of (is_some (Some n)) p (Some n)))
-        → AreUnnamed w r (retired_files x) → LeavesKept w k x.named.items x.retired.items
-    pin_left numbers unnamed = record {
+        → KeepApart x.named.items → AreUnnamed w r (retired_files x) → LeavesKept w k x.named.items x.retired.items
+    pin_left numbers apart unnamed = record {
       numbers = λ p has n held. numbers p (back p has) n (sym (number_same r is row here on pin w after but p) ∙ held);
+      apart = apart;
       are_retired = unnamed_next unnamed;
       strange = strange_kept w after but;
     }
@@ -191,7 +193,7 @@ module _ (x : Session) (k : Work) (user : ℕ) (row : UserRow) (found : row_of x
           holds = subst (λ (v : World). Holds v (next_of k) vault) (sym staged_is) (subst (λ (z : Rec). Holds w z vault) (sym puts.next) holds_next);
           untouched = subst (λ (v : World). NamedAreUntouched v (next_of k)) (sym staged_is) (subst (NamedAreUntouched w) (sym puts.next) untouched_next);
         };
-        session = refl;
+        session = a.session;
         books_are = λ i. record { kept = kept_now i; dead = dead_now i };
         moments = refl;
         noise = refl;

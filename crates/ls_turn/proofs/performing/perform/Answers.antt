@@ -17,7 +17,9 @@ returns-then-is_err-clause-untouched g c = λ lacking. c.ready.ensures.same
 pub returns-in-Err-clause-serves : goal.returns-in-Err-clause-serves
 returns-in-Err-clause-serves g c = λ turn leads.
     work_failed (g.B.Board.sight c.args.board.now) (g.B.Board.sight c.ready.new.self) (g.B.Board.sight c.carry_out.new.board) c.args.x.now c.args.work turn leads c.in-Some.actions c.in-Some.bytes c.ready.result c.ready.ensures
-    c.carry_out.ensures.rest {T = Committed} _ c.in-Err.part refl refl refl c.in-Err.ensures.keeps c.carry_out.ensures.crash
+    c.carry_out.ensures.rest {T = Committed} _ c.in-Err.part refl refl refl c.requires.quiet
+    (c.commits_touch_settings_files_alone.ensures c.args.x.now.settings c.args.work.commit.to c.args.work.commit.actions c.requires.prepared)
+    c.in-Err.ensures.failed c.in-Err.ensures.keeps c.carry_out.ensures.crash
 
 pub returns-clause-serves : goal.returns-clause-serves
 returns-clause-serves g c = λ turn leads.

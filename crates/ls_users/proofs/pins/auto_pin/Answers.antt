@@ -88,7 +88,7 @@ perform-requires-clause-left g c = λ told.
     pin_left c.args.x.now c.in-Ok-put_row.work c.args.user c.in-Some.row.now (sym c.in-Some.ensures.same) c.args.on c.shown_pin-pin.result c.in-Some.ensures.kept
     (subst (λ (next : UserRow). PutsRow c.args.x.now.settings next c.in-Ok-put_row.work) c.in-Ok.ensures.same c.in-Ok-put_row.ensures.puts)
     (c.commits_touch_settings_files_alone.ensures c.args.x.now.settings c.in-Ok-put_row.work.commit.to c.in-Ok-put_row.work.commit.actions c.in-Ok-put_row.ensures.puts.commit)
-    (g.B.Board.sight c.args.board.now).world (c.requires.can.numbers told) (c.requires.can.retired told)
+    (g.B.Board.sight c.args.board.now).world (c.requires.can.numbers told) (c.requires.can.apart told) (c.requires.can.retired told)
 
 pub returns-clause-serves : goal.returns-clause-serves
 returns-clause-serves g c =
