@@ -1,4 +1,4 @@
-mod FileLemmas
+pub mod FileLemmas
 mod FreshLemmas
 mod LastLemmas
 mod LeftLemmas

@@ -1,0 +1,4 @@
+mod NumberLemmas
+mod SlotLemmas
+mod IdLemmas
+mod ClearLemmas
