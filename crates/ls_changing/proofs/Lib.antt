@@ -1,0 +1,15 @@
+pub mod HeldLemmas
+pub mod RowLemmas
+pub mod StagedLemmas
+pub mod ReadyLemmas
+pub mod LeavingLemmas
+pub mod BareLemmas
+pub mod TurnLemmas
+pub mod ListLemmas
+pub mod SessionLemmas
+pub mod LeadLemmas
+pub mod PassingLemmas
+pub mod ChoiceLemmas
+pub mod PlanLemmas
+pub mod CarryLemmas
+pub mod RefusalLemmas

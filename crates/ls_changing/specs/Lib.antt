@@ -1,0 +1,5 @@
+pub mod Replacing
+pub mod Planning
+pub mod Keeping
+pub mod Drawing
+pub mod Passing
