@@ -2,7 +2,7 @@ mod BaseLemmas
 mod BesideLemmas
 mod CallLemmas
 mod CutLemmas
-mod ListingLemmas
+mod SlotLemmas
 mod PokeLemmas
 mod RebuildLemmas
 mod ReplayLemmas

@@ -10,14 +10,14 @@ ghost use Rattle.ls_weaver.specs.Slots.{blank_slot, slot_answer};
 ghost use Rattle.ls_memboard.specs.Contents.{IsRead};
 ghost use Rattle.ls_memboard.specs.Listed.{ListsInOrder};
 
-use crate::listing::{list_ids, list_names};
 use crate::memory::MemBoard;
 use crate::reading::read_file;
+use ls_answers::{answer_of_cell, answer_of_slot, list_ids, list_names};
 use ls_board::{Action, Answer};
 use ls_bytes::Memory;
 use ls_keys::KeyFault;
 use ls_tape::drawn;
-use ls_weaver::{Slot, SlotRead, Weaver};
+use ls_weaver::{Slot, Weaver};
 use std::alloc::Global;
 
 /// Hears bytes of what is left, as many as may be.
@@ -58,25 +58,6 @@ fn copy_of(slots: &Weaver, slot: u32) -> Slot
     }
 }
 
-fn slot_answered(read: SlotRead) -> Answer
-    ensures same { result ≡ read_answer read }
-{
-    match read {
-        SlotRead::Value(value) => Answer::Value(value),
-        SlotRead::Wrong(rest) => Answer::Wrong(rest),
-        SlotRead::Throttled(rest) => Answer::Throttled(rest),
-    }
-}
-
-fn taken(cell: Option<[u8; 32]>) -> Answer
-    ensures same { result ≡ cell_answer cell }
-{
-    match cell {
-        Some(key) => Answer::Key(key),
-        None => Answer::Empty,
-    }
-}
-
 impl MemBoard {
     ghost use Rattle.ls_board.specs.Effect.{IsSound};
     ghost use Rattle.ls_memboard.specs.Seen.{sight_of};
@@ -110,7 +91,7 @@ impl MemBoard {
             ≡ read_answer (slot_answer (slot_at (sight_of self.now).world slot) key.now moment) }
     {
         let mut copy = copy_of(&self.devices.slots, slot);
-        slot_answered(copy.read(key, moment))
+        answer_of_slot(copy.read(key, moment))
     }
 
     fn verify(&self, handle: &[u8; 49], password: &[u8], moment: u64) -> Answer
@@ -170,7 +151,7 @@ impl MemBoard {
                 list_ids(devices.keys.keys(), out)?;
                 Ok(Answer::Bytes)
             }
-            Action::ResumeTake => Ok(taken(devices.cell.get())),
+            Action::ResumeTake => Ok(answer_of_cell(devices.cell.get())),
             Action::Hear { max } => hear(devices.input.rest(), *max, out),
             Action::Now => Ok(Answer::Moment(devices.moments.moment())),
             Action::Draw { len } => draw(self.alloc, devices.noise.rest(), *len, out),

@@ -7,7 +7,6 @@ mod call;
 mod cut;
 mod devices;
 mod failure;
-mod listing;
 mod memory;
 mod past;
 mod pick;

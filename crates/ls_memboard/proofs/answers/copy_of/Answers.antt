@@ -1,6 +1,6 @@
 use Rattle.std.proofs.Common.{◌∙◌, sym}
 use Rattle.ls_weaver.specs.Slots.{blank_slot}
-use Rattle.ls_memboard.proofs.ListingLemmas.{missing}
+use Rattle.ls_memboard.proofs.SlotLemmas.{missing}
 use Rattle.ls_memboard.proofs.answers.copy_of.Goals as goal
 
 pub returns-in-None : goal.returns-in-None

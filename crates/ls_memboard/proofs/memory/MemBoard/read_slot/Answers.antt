@@ -9,6 +9,6 @@ pub returns : goal.returns
 returns c =
     let devices = c.args.self.now.in_step.devices_are in
     record {
-      answer = c.slot_answered.ensures.same ∙ ap read_answer (c.read.ensures.answer
+      answer = c.answer_of_slot.ensures.same ∙ ap read_answer (c.read.ensures.answer
           ∙ ap (λ (s : Slot). slot_answer s c.args.key.now c.args.moment) (c.copy_of-copy.ensures.same ∙ ap (λ (slots : List Slot). slice_index_or slots c.args.slot blank_slot) devices.slots));
     }

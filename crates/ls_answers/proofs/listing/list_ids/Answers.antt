@@ -1,8 +1,8 @@
 use Rattle.std.proofs.Common.{◌≤◌, ◌<◌, ◌+◌, ◌^◌, arith, sym, ◌∙◌, subst, length, take, map}
 use Rattle.std.specs.Ordering.{nat_cmp}
 use Rattle.ls_bytes.specs.Fields.{be64}
-use Rattle.ls_memboard.proofs.ListingLemmas.{Listed, none_past, listed_more, listed_all, keys_ascend, keys_listed}
-use Rattle.ls_memboard.proofs.listing.list_ids.Goals as goal
+use Rattle.ls_answers.proofs.ListingLemmas.{Listed, none_past, listed_more, listed_all, keys_ascend, keys_listed}
+use Rattle.ls_answers.proofs.listing.list_ids.Goals as goal
 
 pub loop-at-preserved : goal.loop-at-preserved
 loop-at-preserved g c =

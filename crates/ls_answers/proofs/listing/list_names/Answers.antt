@@ -2,8 +2,8 @@ use Rattle.std.proofs.Common.{◌≤◌, ◌+◌, ◌++◌, arith, ap, sym, ◌�
 use Rattle.ls_bytes.specs.Names.{IsName}
 use Rattle.ls_board.specs.Listing.{line_of}
 use Rattle.ls_board.specs.Order.{byte_cmp}
-use Rattle.ls_memboard.proofs.ListingLemmas.{Listed, listed_more, listed_all, keys_ascend, keys_listed}
-use Rattle.ls_memboard.proofs.listing.list_names.Goals as goal
+use Rattle.ls_answers.proofs.ListingLemmas.{Listed, listed_more, listed_all, keys_ascend, keys_listed}
+use Rattle.ls_answers.proofs.listing.list_names.Goals as goal
 
 pub loop-at-preserved : goal.loop-at-preserved
 loop-at-preserved c =
