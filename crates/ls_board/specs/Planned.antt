@@ -3,7 +3,7 @@ use Rattle.std.specs.Prelude.{ℕ, List, Option, None, Some}
 use Rattle.ls_board.specs.declared.action.Action.{Action}
 use Rattle.ls_board.specs.declared.action.Action.TheVariants.{List as ListNames, Read, Make, Put, Poke, Remove, Sync, WeaverWrite, WeaverRead, GkSign, GkEnroll, GkVerify, GkForget, GkList, KeyPut, KeyOpen, KeyDrop, KeyList, ResumeStore, ResumeTake, Hear, Say, Now, Draw}
 
--- a plan holds what changes and needs no answer
+-- a plan holds what changes and whose answer nobody needs: so the taking of an escrow key, where the key is of no use any more
 abbrev pub IsPlanned : Action → Type 0
 IsPlanned ListNames = ⊥
 IsPlanned (Read n) = ⊥
@@ -24,7 +24,7 @@ IsPlanned (KeyOpen alias bytes) = ⊥
 IsPlanned (KeyDrop alias) = Unit {0}
 IsPlanned KeyList = ⊥
 IsPlanned (ResumeStore key) = Unit {0}
-IsPlanned ResumeTake = ⊥
+IsPlanned ResumeTake = Unit {0}
 IsPlanned (Hear max) = ⊥
 IsPlanned (Say bytes) = Unit {0}
 IsPlanned Now = ⊥

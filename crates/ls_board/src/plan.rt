@@ -12,7 +12,8 @@ use ls_bytes::Memory;
 use std::alloc::Global;
 use std::marker::Model;
 
-/// Actions that change something and need no answer, in the order in which they are done.
+/// Actions that change something and whose answers nobody needs, in the order in which they are
+/// done.
 #[derive(Drop)]
 pub struct Plan {
     alloc: Global,

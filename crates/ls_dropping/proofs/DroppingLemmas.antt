@@ -61,7 +61,7 @@ away_applies : (w : World) (a : Action) → TakesAway a → Applies w a
 away_applies w (Poke n at bytes) away = absurd away
 away_applies w a away = tt
 
-away_apply : (w : World) (plan : List Action) → AllTakeAway plan → AllApply w plan
+pub away_apply : (w : World) (plan : List Action) → AllTakeAway plan → AllApply w plan
 away_apply w [] away = tt
 away_apply w (a ∷ plan) away = (away_applies w a away.0, away_apply (after w a 0) plan away.1)
 

@@ -24,4 +24,4 @@ pub use lists::{names_of, numbers_of};
 pub use sift::unnamed;
 pub use slot_files::named_slots;
 pub use slots::unused_slots;
-pub use sweeping::{sweep, sweep_unnamed};
+pub use sweeping::{empty_cell, sweep, sweep_unnamed};

@@ -44,6 +44,14 @@ fn run<B: Board>(board: &mut B, plan: &Plan) -> Result<(), Part>
     }
 }
 
+/// Empties the cell, and lets go what was in it. It takes no memory.
+pub fn empty_cell<B: Board>(alloc: Global, board: &mut B) -> Result<(), Part>
+    requires run { CanRun (B.sight board.old) (Action.ResumeTake ∷ []) }
+    ensures steps { Steps (B.sight board.old) (Action.ResumeTake ∷ []) result (B.sight board.new) }
+{
+    act_one(alloc, board, &Action::ResumeTake)
+}
+
 /// Empties the cell, where it is to be emptied.
 fn take_cell<B: Board>(alloc: Global, board: &mut B, takes_cell: bool) -> Result<(), Part>
     requires run { CanRun (B.sight board.old) (only_if takes_cell (Action.ResumeTake ∷ [])) }
@@ -51,7 +59,7 @@ fn take_cell<B: Board>(alloc: Global, board: &mut B, takes_cell: bool) -> Result
         (only_if takes_cell (Action.ResumeTake ∷ [])) result (B.sight board.new) }
 {
     if takes_cell {
-        act_one(alloc, board, &Action::ResumeTake)
+        empty_cell(alloc, board)
     } else {
         Ok(())
     }
