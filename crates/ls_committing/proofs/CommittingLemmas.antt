@@ -41,10 +41,11 @@ use Rattle.ls_turn.specs.declared.stop.Stop.{Stop}
 use Rattle.ls_turn.specs.declared.stop.Stop.TheVariants.{Fault, Memory, Stopped}
 use Rattle.ls_turn.specs.Agreeing.{Agrees, AreNamed, ArePartNames, HaveSecrets, HaveMetrics, files_of, retired_files, session_of, users_in, pending_token}
 use Rattle.ls_turn.specs.Serving.{Turned, CanServe, IsBetween, IsTurn, IsKeptAs, KeepApart, KeepOnce, KeepsStrange, StaysBare, Serves, Always, stage_in, vault_after}
+use Rattle.ls_turn.specs.Waiting.{CanWait}
 use Rattle.ls_turn.specs.Working.{KeepsNamed, LeavesKept}
 use Rattle.ls_turn.proofs.InsideLemmas.{IsMute, all_mute, mute_append, plan_inside, failed_inside}
 use Rattle.ls_turn.proofs.PerformLemmas.{during_between}
-use Rattle.ls_turn.proofs.StillLemmas.{few_kept, left_between}
+use Rattle.ls_turn.proofs.StillLemmas.{left_between}
 use Rattle.ls_committing.specs.Committing.{IsReadied, CommitsChange, HasBecome, named_then, retired_then}
 
 -- ---- room
@@ -291,7 +292,7 @@ module _ (old mid new : Sight) (same : mid ≡ roomier old mid) (before x : Sess
             (subst (λ (n : List Parts). P k.commit.to n y.retired.items) (sym become.named)
             (subst (λ (r : List Parts). P k.commit.to named r) (sym become.retired) is))
 
-        module _ (can : CanServe old before) (keeps_named : KeepsNamed x.slots k named) (files : ArePartNames (files_of gone))
+        module _ (can : CanServe old before) (keeps_named : KeepsNamed x.slots k named) (waits : CanWait (next_of k).users x.pending.items) (files : ArePartNames (files_of gone))
             (left : IsTrue old.told → LeavesKept old.world k named gone) (ready : IsTrue mid.told → IsReady new.world k.commit.to) where
           named_on : (p : Protector) → NamesProtector y.settings.settled.rec p → NamesProtector (next_of k) p
           named_on p has = subst (λ (l : Loaded). NamesProtector l.settled.rec p) become.settings has
@@ -316,7 +317,7 @@ module _ (old mid new : Sight) (same : mid ≡ roomier old mid) (before x : Sess
                 let was = was_told told in
                 moved (λ l n r. AreUnnamed new.world l.settled.rec (files_of r))
                 (subst (λ (w : World). AreUnnamed w (next_of k) (files_of gone)) (sym (world_there was)) (left was).are_retired);
-            pending = few_kept x y become.pending readied.pending;
+            waits = moved (λ l n r. CanWait l.settled.rec.users y.pending.items) (subst (CanWait (next_of k).users) (sym become.pending) waits);
           }
 
         same_session : session_of y ≡ session_of x
@@ -376,12 +377,12 @@ module _ (old mid new : Sight) (same : mid ≡ roomier old mid) (before x : Sess
             moved (λ v n r. IsBare start new.world v.settled.rec (files_of r))
             (subst (λ (w : World). IsBare start w (next_of k) (files_of gone)) (sym (world_there told)) ((leads told s agrees).bare start (bare_before start bare)))
 
-        pub change_done : {T : Type 0} (done : T) → CanServe old before → KeepsNamed x.slots k named → ArePartNames (files_of gone)
+        pub change_done : {T : Type 0} (done : T) → CanServe old before → KeepsNamed x.slots k named → CanWait (next_of k).users x.pending.items → ArePartNames (files_of gone)
             → (IsTrue old.told → LeavesKept old.world k named gone) → Keeps {T = T} {E = Part} (λ p. p) mid new (Ok done) → IsCrash
             → (IsTrue mid.told → (now : Vault) → Readies mid.world k now → StandsDurably new.world k.commit.to.settled now)
             → (IsTrue mid.told → IsReady new.world k.commit.to)
             → Serves old before turn Always (Ok Fine) y new
-        change_done {T} done can keeps_named files left keeps crash stands ready =
+        change_done {T} done can keeps_named waits files left keeps crash stands ready =
             let h = keeps_here {T = T} (Ok done) keeps in
             record {
               keeps = record {
@@ -397,7 +398,7 @@ module _ (old mid new : Sight) (same : mid ≡ roomier old mid) (before x : Sess
               boot = become.boot ∙ readied.boot;
               cause = become.stopped ∙ readied.stopped;
               going = no_stopped;
-              can = can_next can keeps_named files left ready;
+              can = can_next can keeps_named waits files left ready;
               few = omega arith;
               silent = silent_here;
               inside = change_inside;

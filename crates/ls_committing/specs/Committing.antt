@@ -5,11 +5,9 @@ use Rattle.ls_exchange.specs.Exchanges.{Exchanged, new_parts, plain}
 use Rattle.ls_formats.specs.declared.parts.Parts.{Parts}
 use Rattle.ls_settings.specs.Loaded.{Loaded}
 use Rattle.ls_vault.specs.declared.state.State.{State}
-use Rattle.ls_vault.specs.Limits.{most_tokens}
 use Rattle.ls_vault.specs.Script.{Stage}
 use Rattle.ls_turn.specs.declared.session.Session.{Session}
 use Rattle.ls_turn.specs.Agreeing.{Agrees}
-use Rattle.ls_turn.specs.Refusing.{pending_for}
 use Rattle.ls_turn.specs.Serving.{Turned, stage_in}
 use Rattle.ls_turn.specs.Working.{LeadsTo}
 
@@ -21,7 +19,6 @@ pub record IsReadied (before x : Session) : Type 0 where
   pub settings : x.settings ≡ before.settings
   pub retired : x.retired.items ≡ before.retired.items
   pub stopped : x.stopped ≡ before.stopped
-  pub pending : (user : ℕ) → length (pending_for x user) ≤ most_tokens
 
 -- the parts of the protectors that are named behind the change
 abbrev pub named_then : Session → Exchanged → List Parts

@@ -3,7 +3,7 @@ ghost use Rattle.std.specs.Prelude.{◌≡◌, ◌≤◌, ◌+◌, IsTrue, IfOk,
 ghost use Rattle.ls_board.specs.Acts.{Sight};
 ghost use Rattle.ls_board.specs.Effect.{weight_of};
 ghost use Rattle.ls_board.specs.Runs.{after_all};
-ghost use Rattle.ls_change.specs.Work.{IsQuietWork, actions_of};
+ghost use Rattle.ls_change.specs.Work.{IsQuietWork, actions_of, next_of};
 ghost use Rattle.ls_exchange.specs.Exchanges.{plain, AreNew, AreNamed, AreLeftOut};
 ghost use Rattle.ls_script.specs.declared.reply.Reply.TheVariants as reply;
 ghost use Rattle.ls_settings.specs.Commits.{IsCommit};
@@ -12,6 +12,7 @@ ghost use Rattle.ls_turn.specs.declared.session.Session.{Session as Sessions};
 ghost use Rattle.ls_turn.specs.declared.stop.Stop.TheVariants as stop;
 ghost use Rattle.ls_turn.specs.Agreeing.{ArePartNames, files_of};
 ghost use Rattle.ls_turn.specs.Serving.{Serves, Turned, CanServe, Always};
+ghost use Rattle.ls_turn.specs.Waiting.{CanWait};
 ghost use Rattle.ls_turn.specs.Working.{IsSoundWork, KeepsNamed, LeavesKept};
 ghost use Rattle.ls_committing.specs.Committing.{IsReadied, CommitsChange, HasBecome, named_then, retired_then};
 
@@ -71,6 +72,7 @@ pub fn commit_change<B: Board>(
         → AreLeftOut (B.sight board.old).world work }
     requires files { ArePartNames (files_of (retired_then x.old work)) }
     requires named { KeepsNamed x.old.slots (plain work) (named_then x.old work) }
+    requires waits { CanWait (next_of (plain work)).users x.old.pending.items }
     requires left { IsTrue (B.sight board.old).told
         → LeavesKept (B.sight board.old).world (plain work) (named_then x.old work)
         (retired_then x.old work) }

@@ -24,7 +24,8 @@ use Rattle.ls_turn.specs.Refusing.{row_of}
 use Rattle.ls_turn.specs.Serving.{CanServe, Turned, IsTurn, Serves, turned, stage_in, Always}
 use Rattle.ls_turn.proofs.KnownLemmas.{is_another, users_without, in_filtered}
 use Rattle.ls_turn.proofs.RowLemmas.{user_there}
-use Rattle.ls_turn.proofs.StillLemmas.{HasKept, few_kept, still}
+use Rattle.ls_turn.proofs.StillLemmas.{HasKept, still}
+use Rattle.ls_turn.proofs.WaitLemmas.{waits_kept}
 use Rattle.ls_questions.proofs.TurnLemmas.{turned_user}
 use Rattle.ls_questions.proofs.QuestionLemmas.{unknown}
 
@@ -70,7 +71,7 @@ module _ (old : Sight) (x : Session) (can : CanServe old x) (user : ℕ) where
     })
 
     pub lock_known : (row : UserRow) → row_of x.settings.settled.rec user ≡ Some row → Serves old x (turned x.slots (command.Lock user)) Always (Ok Fine) y old
-    lock_known row found = still old x y (turned x.slots (command.Lock user)) Always others_kept Fine can (ap (λ (z : Session). z.stopped) (sym is)) (few_kept x y (ap (λ (z : Session). z.pending.items) (sym is)) can.pending) (omega arith)
+    lock_known row found = still old x y (turned x.slots (command.Lock user)) Always others_kept Fine can (ap (λ (z : Session). z.stopped) (sym is)) (waits_kept x y (ap (λ (z : Session). z.settings) (sym is)) (ap (λ (z : Session). z.pending.items) (sym is)) can.waits) (omega arith)
         (λ told s agrees.
         let at = stage_in old.world s in
         let there = user_there old.world x s agrees user row found in

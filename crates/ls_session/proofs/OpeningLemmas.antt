@@ -1,6 +1,6 @@
 -- Opening, from its parts.
 use Rattle.std.proofs.Common.{◌≡◌, ◌≢◌, ⊎_elim, inl, inr, ◌≤◌, ℕ, Bool, true, false, IsTrue, List, [], ◌∷◌, length, Option, None, Some, refl, sym, ◌∙◌, ap, subst, arith}
-use Rattle.std.specs.Prelude.{◌==◌, Result, Ok, Err, OnOk, map, filter, is_some}
+use Rattle.std.specs.Prelude.{Result, Ok, Err, OnOk, map, is_some}
 use Rattle.std.specs.List.{Contains, AllZip}
 use Rattle.std.specs.Option.{option_and_then}
 use Rattle.ls_board.specs.declared.action.Action.{Action}
@@ -45,13 +45,13 @@ use Rattle.ls_standing.proofs.QuietLemmas.{durably_left}
 use Rattle.ls_standing.proofs.SameLemmas.{named_but, named_but_settings}
 use Rattle.ls_vault.specs.declared.vault.Vault.{Vault}
 use Rattle.ls_vault.specs.declared.vault.Books.{Books}
-use Rattle.ls_turn.specs.declared.session.Pending.{Pending}
 use Rattle.ls_sweep.specs.Swept.{Sweeps}
 use Rattle.ls_turn.specs.declared.session.Session.{Session}
 use Rattle.ls_turn.specs.Agreeing.{Agrees, AreNamed, parts_in}
 use Rattle.ls_turn.specs.Fresh.{IsFresh, opened_state}
 use Rattle.ls_turn.specs.Serving.{CanServe, IsKeptAs, KeepOnce, KeepApart}
 use Rattle.ls_turn.proofs.FreshLemmas.{none_left, none_retired}
+use Rattle.ls_turn.proofs.WaitLemmas.{none_wait}
 use Rattle.ls_protector.specs.Parts.{parts_of}
 use Rattle.ls_session.specs.Checking.{Checks}
 use Rattle.ls_session.specs.Opening.{Begins, Opens, IsFirstFault, synced_world}
@@ -443,7 +443,7 @@ module _ (old mid far new : Sight) (boot : ℕ) (l : Loaded) (begins : Begins ol
         let there = is_mid (was_told told) in
         subst KeepApart (sym its) (kept_apart mid.world l.settled.rec keeps (checks.none there) items (found there));
     retired = λ told. none_retired new.world x.settings.settled.rec x fresh.retired;
-    pending = λ user. subst (λ (q : List Pending). length (filter (λ p. p.user == user) q) ≤ 8) (sym fresh.pending) (omega arith);
+    waits = none_wait x.settings.settled.rec (subst (λ (s : Loaded). IsRecord s.settled.rec) (sym settings) keeps) x.pending.items fresh.pending;
   }
 
   pub opened : Opens old boot (Ok x) new

@@ -1,17 +1,20 @@
 -- A token is added, as the machine does it.
-use Rattle.std.proofs.Common.{◌≡◌, ◌≤◌, ◌<◌, ◌+◌, ◌∷◌, ◌++◌, ℕ, Bool, true, false, cond, IsTrue, List, [], map, length, drop, Option, None, Some, refl, sym, ◌∙◌, ap, subst, arith}
-use Rattle.std.specs.Prelude.{◌==◌, filter, Ok, Err}
-use Rattle.std.proofs.lemmas.Bool.{eqb-true}
-use Rattle.std.proofs.lemmas.List.{length-append, map-append}
-use Rattle.std.proofs.lemmas.List.Elements.{filter-append}
+use Rattle.std.proofs.Common.{◌≡◌, ◌<◌, ◌^◌, ◌+◌, ◌∷◌, ◌++◌, ℕ, Bool, true, false, IsTrue, List, [], map, length, drop, Option, None, Some, refl, sym, ◌∙◌, ap, subst, arith}
+use Rattle.std.specs.Prelude.{Ok, Err}
+use Rattle.std.specs.List.{Contains}
+use Rattle.std.proofs.lemmas.List.{map-append}
+use Rattle.ls_arming.specs.Numbers.{contains}
 use Rattle.ls_board.specs.declared.action.BoardFault.TheVariants as fault
 use Rattle.ls_board.specs.declared.world.World.{World}
 use Rattle.ls_board.specs.Acts.{Sight}
 use Rattle.ls_drawing.specs.Drawing.{Draws, stop_of}
 use Rattle.ls_drawing.proofs.DrawLemmas.{turn_from, drawn_kept, drawn_are, drawn_len, draw_goes_on}
+use Rattle.ls_record.specs.declared.row.UserRow.{UserRow}
+use Rattle.ls_record.specs.Rows.{IsRecord, is_odd}
 use Rattle.ls_script.specs.declared.command.Command.TheVariants as command
 use Rattle.ls_script.specs.declared.reply.Refusal.{Refusal}
 use Rattle.ls_script.specs.declared.reply.Reply.TheVariants.{TokenId, No}
+use Rattle.ls_settings.specs.Loaded.{Loaded}
 use Rattle.ls_tape.specs.Tape.{drawn}
 use Rattle.ls_vault.specs.declared.session.SessionState.{SessionState}
 use Rattle.ls_vault.specs.declared.state.Outcome.{Outcome}
@@ -19,6 +22,7 @@ use Rattle.ls_vault.specs.declared.state.State.{State}
 use Rattle.ls_vault.specs.declared.token.PendingToken.{PendingToken}
 use Rattle.ls_vault.specs.Drawn.{len_unless, number_len}
 use Rattle.ls_vault.specs.Fresh.{fresh, drawn_number}
+use Rattle.ls_vault.specs.Limits.{most_tokens}
 use Rattle.ls_vault.specs.Script.{Stage}
 use Rattle.ls_vault.specs.Step.{unless}
 use Rattle.ls_vault.specs.TokenChanges.{token_added}
@@ -30,13 +34,16 @@ use Rattle.ls_turn.specs.declared.stop.Cause.TheVariants as cause
 use Rattle.ls_turn.specs.declared.stop.Stop.{Stop}
 use Rattle.ls_turn.specs.declared.stop.Stop.TheVariants as stop
 use Rattle.ls_turn.specs.Agreeing.{Agrees, pending_token, session_of}
-use Rattle.ls_turn.specs.Refusing.{of_user, token_add_refusal, pending_for}
+use Rattle.ls_turn.specs.Refusing.{of_user, token_add_refusal}
 use Rattle.ls_turn.specs.Serving.{CanServe, Turned, IsTurn, Serves, turned, stage_in, Always}
+use Rattle.ls_turn.specs.Waiting.{CanWait, those_of}
 use Rattle.ls_turn.proofs.BehindLemmas.{KeepsSession}
-use Rattle.ls_turn.proofs.StillLemmas.{HasKept, FewPending, answered, still, lacking}
+use Rattle.ls_turn.proofs.RowLemmas.{one_row}
+use Rattle.ls_turn.proofs.StillLemmas.{HasKept, answered, still, lacking}
 use Rattle.ls_turn.proofs.StoredLemmas.{stored_can}
+use Rattle.ls_turn.proofs.WaitLemmas.{Waits, wait_behind}
 use Rattle.ls_tokens.specs.Adding.{taken_ids}
-use Rattle.ls_tokens.proofs.LimitLemmas.{machine_refusal, refused_alike, room_for_one, taken_alike}
+use Rattle.ls_tokens.proofs.LimitLemmas.{machine_refusal, no_active, none_waiting, refused_alike, room_for_one, taken_alike}
 
 -- ---- the turn of the machine
 
@@ -125,20 +132,23 @@ module _ (x : Session) (user : ℕ) (token : List ℕ) where
       prepared = a.prepared;
     })
 
-    -- each user has no more pending tokens than may be
-    module _ (few : FewPending x) (none : own ≡ None) where
-      few_added : FewPending y
-      few_added v =
-          subst (λ (l : List Pending). length (filter (λ p. p.user == v) l) ≤ 8) (sym put)
-          (subst (λ (l : List Pending). length l ≤ 8) (sym (filter-append (λ p. p.user == v) x.pending.items (one ∷ [])))
-          (subst (λ (n : ℕ). n ≤ 8) (sym (length-append (pending_for x v) (filter (λ p. p.user == v) (one ∷ []))))
-          (by (user == v) refl)))
-        where
-          by : (b : Bool) → (user == v) ≡ b → length (pending_for x v) + length (cond b (one ∷ []) []) ≤ 8
-          by true same =
-              let below = subst (λ (n : ℕ). length (pending_for x n) < 8) (eqb-true user v same) (room_for_one x user none) in
-              omega (arith, below)
-          by false other = let most = few v in omega (arith, most)
+    -- it waits behind the others
+    module _ (waits : Waits x) (is_record : IsRecord x.settings.settled.rec) (none : own ≡ None) (odd : is_odd id ≡ true) (small : id < 2 ^ 64) (free : contains (taken_ids x) id ≡ false) where
+      room : (row : UserRow) → Contains x.settings.settled.rec.users row → row.user ≡ user → length row.tokens + length (those_of row.user x.pending.items) < most_tokens
+      room row here same =
+          let its = room_for_one x user none in
+          subst (λ (r : UserRow). length r.tokens + length (those_of r.user x.pending.items) < most_tokens)
+          (sym (one_row x.settings.settled.rec is_record its.0 its.1 row here (same ∙ sym its.2))) its.4
+
+      behind : CanWait x.settings.settled.rec.users (x.pending.items ++ one ∷ [])
+      behind =
+          let its = room_for_one x user none in
+          wait_behind x.settings.settled.rec.users x.pending.items waits one (its.0, its.1, its.2, its.3) (odd, small) (no_active x id free) (none_waiting x id free) room
+
+      waits_added : Waits y
+      waits_added =
+          subst (λ (l : List Pending). CanWait y.settings.settled.rec.users l) (sym put)
+          (subst (λ (s : Loaded). CanWait s.settled.rec.users (x.pending.items ++ one ∷ [])) (sym others_kept.settings) behind)
 
       module _ (old new : Sight) (can : CanServe old x) (out : List ℕ) (d : Draws 8 old (Ok out) new) (id_is : id ≡ fresh (drawn_number out) (taken_ids x)) where
         kept : KeepsSession old new
@@ -176,7 +186,7 @@ module _ (x : Session) (user : ℕ) (token : List ℕ) where
 
         pub add_done : Serves old x turn Always (Ok (TokenId id)) y new
         add_done = draw_goes_on 8 old new out d x y turn Always (Ok (TokenId id)) new
-            (still new x y (turn_from old.world turn) Always others_kept (TokenId id) can_then (ap (λ (z : Session). z.stopped) (sym is)) few_added (omega arith) is_added)
+            (still new x y (turn_from old.world turn) Always others_kept (TokenId id) can_then (ap (λ (z : Session). z.stopped) (sym is)) waits_added (omega arith) is_added)
 
 -- a session that only stopped has what it had
 pub stopped_kept : (x y : Session) (why : Option Cause) → y ≡ record x { stopped = why } → HasKept x y

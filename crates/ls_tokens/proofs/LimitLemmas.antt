@@ -1,16 +1,22 @@
 -- What refuses a token, and which ids are taken: the session knows it as the machine does.
-use Rattle.std.proofs.Common.{◌≡◌, ◌<◌, ◌+◌, ◌∷◌, ◌++◌, ℕ, Bool, true, false, not, List, [], map, length, Option, None, Some, refl, sym, ◌∙◌, ap, subst, arith}
-use Rattle.std.specs.Prelude.{nat_le, flat_map, if◌then◌else◌}
-use Rattle.std.specs.List.{AllZip}
+use Rattle.std.proofs.Common.{◌≡◌, ◌≢◌, ◌<◌, ◌+◌, ◌∷◌, ◌++◌, ℕ, Bool, true, false, not, List, [], map, length, Option, None, Some, refl, sym, ◌∙◌, ap, subst, arith}
+use Rattle.std.specs.Prelude.{◌==◌, nat_le, flat_map, if◌then◌else◌}
+use Rattle.std.specs.List.{AllZip, Contains}
 use Rattle.std.specs.Option.{option_map_or}
-use Rattle.std.proofs.lemmas.Bool.{leb-false}
+use Rattle.std.proofs.lemmas.Bool.{eq-eqb, leb-false}
 use Rattle.std.proofs.lemmas.List.Concat.{flat_map-cons}
+use Rattle.std.proofs.lemmas.List.Elements.{Contains-append_left, Contains-append_right}
+use Rattle.ls_arming.specs.Numbers.{contains}
 use Rattle.ls_board.specs.declared.world.World.{World}
 use Rattle.ls_record.specs.declared.row.UserRow.{UserRow}
+use Rattle.ls_record.specs.Rows.{has}
+use Rattle.ls_record.proofs.TestLemmas.{has_not}
 use Rattle.ls_script.specs.declared.reply.Refusal.{Refusal}
 use Rattle.ls_script.specs.declared.reply.Refusal.TheVariants.{NoUser, NoEscrow, TokenLimit}
 use Rattle.ls_standing.specs.Named.{held_of_row}
 use Rattle.ls_standing.specs.Standing.{HoldsUser}
+use Rattle.ls_standing.proofs.ContainsLemmas.{any_contained, in_flat, in_map}
+use Rattle.ls_standing.proofs.PairLemmas.{all_from}
 use Rattle.ls_vault.specs.declared.session.SessionState.{SessionState}
 use Rattle.ls_vault.specs.declared.state.State.{State}
 use Rattle.ls_vault.specs.declared.user.User.{User}
@@ -22,6 +28,7 @@ use Rattle.ls_turn.specs.declared.session.Session.{Session}
 use Rattle.ls_turn.specs.declared.session.Pending.{Pending}
 use Rattle.ls_turn.specs.Agreeing.{Agrees, pending_token}
 use Rattle.ls_turn.specs.Refusing.{row_of, of_row, of_user, token_add_refusal, pending_for}
+use Rattle.ls_turn.specs.Waiting.{those_of}
 use Rattle.ls_turn.proofs.KnownLemmas.{active_count_is, pending_count_is}
 use Rattle.ls_turn.proofs.RowLemmas.{row_found, user_there, nobody_there}
 use Rattle.ls_tokens.specs.Adding.{taken_ids}
@@ -61,26 +68,29 @@ module _ (w : World) (x : Session) (s : State) (agrees : Agrees w x s) (user : �
 
 -- ---- where nothing refuses it
 
-below_limit : (escrow : Bool) (active pending : ℕ) → limit_by escrow active pending ≡ None → active + pending < 8
+below_limit : (escrow : Bool) (active pending : ℕ) → limit_by escrow active pending ≡ None → (escrow ≡ true) × (active + pending < 8)
 below_limit false active pending none = absurd (cc)
-below_limit true active pending none = by (nat_le most_tokens (active + pending)) refl none
+below_limit true active pending none = (refl, by (nat_le most_tokens (active + pending)) refl none)
   where
     by : (b : Bool) → nat_le most_tokens (active + pending) ≡ b → ◌≡◌ {A = Option Refusal} (if b then Some TokenLimit else None) None → active + pending < 8
     by true is rest = absurd (cc)
     by false is rest = leb-false 8 (active + pending) is
 
--- one more may wait
-pub room_for_one : (x : Session) (user : ℕ) → of_user x user (token_add_refusal x) ≡ None → length (pending_for x user) < 8
+-- the user may have tokens, and one more may wait
+pub room_for_one : (x : Session) (user : ℕ) → of_user x user (token_add_refusal x) ≡ None
+    → (row : UserRow) × Contains x.settings.settled.rec.users row × (row.user ≡ user) × (row.escrow ≡ true) × (length row.tokens + length (those_of row.user x.pending.items) < 8)
 room_for_one x user none = by (row_of x.settings.settled.rec user) refl
   where
-    by : (found : Option UserRow) → row_of x.settings.settled.rec user ≡ found → length (pending_for x user) < 8
+    by : (found : Option UserRow) → row_of x.settings.settled.rec user ≡ found
+        → (row : UserRow) × Contains x.settings.settled.rec.users row × (row.user ≡ user) × (row.escrow ≡ true) × (length row.tokens + length (those_of row.user x.pending.items) < 8)
     by None is = absurd (no_user (sym (ap (λ (f : Option UserRow). of_row f (token_add_refusal x)) is) ∙ none))
       where
         no_user : ◌≡◌ {A = Option Refusal} (Some NoUser) None → ⊥
         no_user e = cc
     by (Some row) is =
         let below = below_limit row.escrow (length row.tokens) (length (pending_for x row.user)) (sym (ap (λ (f : Option UserRow). of_row f (token_add_refusal x)) is) ∙ none) in
-        subst (λ (n : ℕ). length (pending_for x n) < 8) (row_found user x.settings.settled.rec.users row is).1 (omega (arith, below))
+        let found = row_found user x.settings.settled.rec.users row is in
+        (row, found.0, found.1, below.0, below.1)
 
 -- ---- the ids that are taken
 
@@ -105,3 +115,18 @@ taken_alike w x s agrees =
     (active_ids (λ row u. HoldsUser row (held_of_row w x.settings.settled.rec.armed row) u) (λ row u h. h.says.tokens) x.settings.settled.rec.users s.vault.users agrees.stands.stands.holds.users)
     ∙ ap (λ (l : List ℕ). flat_map (λ r. r.tokens) x.settings.settled.rec.users ++ l)
     (sym (ap (λ (t : SessionState). map (λ p. p.id) t.pending) agrees.session) ∙ waiting_ids x.pending.items)
+
+-- ---- an id that isn't taken
+
+module _ (x : Session) (id : ℕ) (free : contains (taken_ids x) id ≡ false) where
+  not_taken : (n : ℕ) → Contains (taken_ids x) n → n ≢ id
+  not_taken n here same = let both : true ≡ false = sym (any_contained (λ m. m == id) (taken_ids x) n here (eq-eqb n id same)) ∙ free in cc
+
+  pub no_active : (row : UserRow) → Contains x.settings.settled.rec.users row → has row.tokens id ≡ false
+  no_active row here = has_not row.tokens id (all_from (λ (t : ℕ). t ≢ id) row.tokens
+      (λ t its. not_taken t (Contains-append_left (flat_map (λ r. r.tokens) x.settings.settled.rec.users) (map (λ p. p.id) x.pending.items) t
+      (in_flat (λ r. r.tokens) x.settings.settled.rec.users row t here its))))
+
+  pub none_waiting : (p : Pending) → Contains x.pending.items p → p.id ≢ id
+  none_waiting p here = not_taken p.id (Contains-append_right (flat_map (λ r. r.tokens) x.settings.settled.rec.users) (map (λ p. p.id) x.pending.items) p.id
+      (in_map (λ p. p.id) x.pending.items p here))

@@ -1,5 +1,7 @@
 //! An id that no token has.
-ghost use Rattle.std.specs.Prelude.{◌≡◌, ◌≤◌, ◌++◌, length, IfOk, OnOk};
+ghost use Rattle.std.specs.Prelude.{◌≡◌, ◌≤◌, ◌++◌, true, false, length, IfOk, OnOk};
+ghost use Rattle.ls_arming.specs.Numbers.{contains};
+ghost use Rattle.ls_record.specs.Rows.{is_odd};
 ghost use Rattle.ls_tokens.specs.Adding.{taken_ids};
 ghost use Rattle.ls_vault.specs.Fresh.{fresh, drawn_number};
 
@@ -36,6 +38,8 @@ pub(crate) fn taken_ids(x: &Session) -> Result<IdList, Memory>
 pub(crate) fn id_by(drawn: &[u8], taken: &[u64]) -> u64
     requires { 8 ≤ length drawn.now }
     ensures same { result ≡ fresh (drawn_number drawn.now) taken.now }
+    ensures odd { is_odd result ≡ true }
+    ensures free { contains taken.now result ≡ false }
 {
     fresh_token_id(BigEndian::read_u64(drawn), taken)
 }

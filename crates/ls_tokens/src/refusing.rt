@@ -1,5 +1,6 @@
 //! Why a token isn't added.
 ghost use Rattle.std.specs.Prelude.{◌≡◌, ◌+◌, ℕ, List, length, nat_le};
+ghost use Rattle.ls_record.specs.Rows.{IsRecord};
 ghost use Rattle.ls_script.specs.declared.command.Command.TheVariants as command;
 ghost use Rattle.ls_turn.specs.Refusing.{own_refusal, token_add_refusal};
 ghost use Rattle.ls_vault.specs.Limits.{most_tokens};
@@ -34,6 +35,7 @@ fn refusal_in(x: &Session, row: &UserRow) -> Option<Refusal>
 /// Why a user gets no token more, by the record and what the session knows.
 pub(crate) fn refusal(x: &Session, user: u32) -> Option<Refusal>
     ensures same { (token : List ℕ) → result ≡ own_refusal x.now (command.TokenAdd user token) }
+    ensures kept { IsRecord x.now.settings.settled.rec }
 {
     match x.row(user) {
         None => Some(Refusal::NoUser),

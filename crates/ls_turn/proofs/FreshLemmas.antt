@@ -1,6 +1,6 @@
 -- A session as opening leaves it, and one of a board on which nothing is kept.
 use Rattle.std.proofs.Common.{◌≡◌, ◌≤◌, ℕ, true, false, IsTrue, List, [], map, length, Option, None, Some, refl, sym, ◌∙◌, ap, subst, arith}
-use Rattle.std.specs.Prelude.{Ok, filter, ◌==◌}
+use Rattle.std.specs.Prelude.{Ok}
 use Rattle.std.specs.List.{Contains}
 use Rattle.std.proofs.lemmas.List.{length-replicate}
 use Rattle.ls_arming.specs.declared.arming.Arming.{Arming}
@@ -19,12 +19,11 @@ use Rattle.ls_standing.specs.NamedProtectors.{NamesProtector}
 use Rattle.ls_standing.specs.Standing.{StandsDurably, kept_arming}
 use Rattle.ls_standing.proofs.ContainsLemmas.{none_in}
 use Rattle.ls_vault.specs.declared.vault.Vault.{Vault}
-use Rattle.ls_vault.specs.Limits.{most_tokens}
 use Rattle.ls_turn.specs.declared.session.Session.{Session}
-use Rattle.ls_turn.specs.declared.session.Pending.{Pending}
 use Rattle.ls_turn.specs.Agreeing.{Agrees, AreNamed, ArePartNames, files_of, pending_token, retired_files, users_in}
 use Rattle.ls_turn.specs.Fresh.{IsFresh, HasZeros, empty_vault, empty_world, nothing_loaded, opened_state}
 use Rattle.ls_turn.specs.Serving.{CanServe, KeepOnce, KeepApart}
+use Rattle.ls_turn.proofs.WaitLemmas.{none_wait}
 
 nothing_in : {X : Type 0} (xs : List X) (x : X) → xs ≡ [] → Contains xs x → ⊥
 nothing_in xs x none has = none_in x (subst (λ l. Contains l x) none has)
@@ -107,21 +106,21 @@ module _ (x : Session) (loaded : x.settings ≡ nothing_loaded) where
   no_protector : (p : Protector) → NamesProtector x.settings.settled.rec p → ⊥
   no_protector p has = none_in p (subst (λ (s : Loaded). NamesProtector s.settled.rec p) loaded has)
 
+  its_record : IsRecord x.settings.settled.rec
+  its_record = subst (λ (s : Loaded). IsRecord s.settled.rec) (sym loaded) no_rows
+
   pub empty_agrees : (w : World) (boot slots : ℕ) → HasZeros w → AreUntouched w → IsFresh boot slots x → length w.slots ≡ slots → x.named.items ≡ []
       → Agrees w x (opened_state w unsettled boot empty_vault)
   empty_agrees w boot slots files untouched fresh count named =
       subst (λ (s : Loaded). Agrees w x (opened_state w s.settled boot empty_vault)) loaded
       (fresh_agrees w x boot slots empty_vault fresh count
-      (subst (λ (s : Loaded). IsRecord s.settled.rec) (sym loaded) no_rows)
+      its_record
       (subst (λ (s : Loaded). StandsDurably w s.settled empty_vault) (sym loaded) (empty_stands w files untouched))
       (subst (IsReady w) (sym loaded) (empty_ready w files untouched))
       (record {
         each = λ p has. absurd (no_protector p has);
         only = λ q has. absurd (nothing_in x.named.items q named has);
       }))
-
-  pub none_pending : (user : ℕ) (pending : List Pending) → pending ≡ [] → length (filter (λ p. p.user == user) pending) ≤ most_tokens
-  none_pending user pending none = subst (λ (l : List Pending). length (filter (λ p. p.user == user) l) ≤ most_tokens) (sym none) (omega arith)
 
   pub empty_can : (b : Sight) (boot : ℕ) → IsFresh boot b.slots x → x.named.items ≡ [] → (IsTrue b.told → HasZeros b.world × AreUntouched b.world) → CanServe b x
   empty_can b boot fresh named empty = record {
@@ -135,7 +134,7 @@ module _ (x : Session) (loaded : x.settings ≡ nothing_loaded) where
     numbers = λ told p has. absurd (no_protector p has);
     apart = λ told. none_shared x named;
     retired = λ told. none_retired b.world x.settings.settled.rec x fresh.retired;
-    pending = λ user. none_pending user x.pending.items fresh.pending;
+    waits = none_wait x.settings.settled.rec its_record x.pending.items fresh.pending;
   }
 
 -- ---- there is such a board

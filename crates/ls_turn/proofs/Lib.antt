@@ -1,5 +1,6 @@
 pub mod StillLemmas
 pub mod RowLemmas
+pub mod WaitLemmas
 pub mod KnownLemmas
 pub mod InsideLemmas
 pub mod PerformLemmas

@@ -38,6 +38,7 @@ use Rattle.ls_turn.specs.declared.stop.Stop.{Stop}
 use Rattle.ls_turn.specs.declared.stop.Stop.TheVariants.{Fault, Memory, Stopped}
 use Rattle.ls_turn.specs.Agreeing.{Agrees, AreNamed, retired_files}
 use Rattle.ls_turn.specs.Serving.{Turned, CanServe, IsBetween, IsTurn, KeepsStrange, StaysBare, Serves, Always, stage_in, vault_after}
+use Rattle.ls_turn.specs.Waiting.{CanWait}
 use Rattle.ls_turn.specs.Working.{Commits, KeepsNamed, LeavesKept}
 use Rattle.ls_turn.proofs.InsideLemmas.{IsMute, all_mute, mute_append, plan_inside, failed_inside, room_inside}
 use Rattle.ls_turn.proofs.StillLemmas.{left_between}
@@ -216,7 +217,7 @@ module _ (old mid new : Sight) (x : Session) (k : Work) (turn : Stage → Turned
         abbrev z : Session
         z = record x { settings = y.settings }
 
-        module _ (can : CanServe old x) (named : KeepsNamed x.slots k x.named.items) (left : IsTrue old.told → LeavesKept old.world k x.named.items x.retired.items)
+        module _ (can : CanServe old x) (named : KeepsNamed x.slots k x.named.items) (waits : CanWait (next_of k).users x.pending.items) (left : IsTrue old.told → LeavesKept old.world k x.named.items x.retired.items)
             (same_slots : mid.slots ≡ old.slots) (ready : IsTrue mid.told → IsReady new.world k.commit.to) where
           named_then : (p : Protector) → NamesProtector y.settings.settled.rec p → NamesProtector (next_of k) p
           named_then p has = subst (λ (s : Loaded). NamesProtector s.settled.rec p) to has
@@ -244,7 +245,7 @@ module _ (old mid new : Sight) (x : Session) (k : Work) (turn : Stage → Turned
                 let was = was_told told in
                 subst (λ (s : Loaded). AreUnnamed new.world s.settled.rec (retired_files x)) (sym to)
                 (subst (λ (w : World). AreUnnamed w (next_of k) (retired_files x)) (sym (world_there was)) (left was).are_retired);
-            pending = can.pending;
+            waits = subst (λ (v : Loaded). CanWait v.settled.rec.users x.pending.items) (sym to) waits;
           }
 
         its_turn : (stands : IsTrue mid.told → (now : Vault) → Readies mid.world k now → StandsDurably new.world k.commit.to.settled now)
@@ -286,13 +287,13 @@ module _ (old mid new : Sight) (x : Session) (k : Work) (turn : Stage → Turned
             subst (λ (v : Loaded). IsBare start new.world v.settled.rec (retired_files x)) (sym to)
             (subst (λ (w : World). IsBare start w (next_of k) (retired_files x)) (sym (world_there told)) ((leads told s agrees).bare start bare))
 
-        pub work_done : {T : Type 0} (done : T) → CanServe old x → KeepsNamed x.slots k x.named.items → (IsTrue old.told → LeavesKept old.world k x.named.items x.retired.items)
+        pub work_done : {T : Type 0} (done : T) → CanServe old x → KeepsNamed x.slots k x.named.items → CanWait (next_of k).users x.pending.items → (IsTrue old.told → LeavesKept old.world k x.named.items x.retired.items)
             → (IsTrue old.told → IsQuietWork old.world x.settings k) → AllTouchOnly settings_reach k.commit.actions
             → Keeps {T = T} {E = Part} (λ p. p) mid new (Ok done) → IsCrash
             → (IsTrue mid.told → (now : Vault) → Readies mid.world k now → StandsDurably new.world k.commit.to.settled now)
             → (IsTrue mid.told → IsReady new.world k.commit.to)
             → Serves old x turn Always (Ok Fine) y new
-        work_done {T} done can named left quiet commits keeps crash stands ready =
+        work_done {T} done can named waits left quiet commits keeps crash stands ready =
             let k1 = keeps_here {T = T} (Ok done) keeps in
             subst (λ (v : Session). Serves old x turn Always (Ok Fine) v new) is (record {
               keeps = record {
@@ -308,7 +309,7 @@ module _ (old mid new : Sight) (x : Session) (k : Work) (turn : Stage → Turned
               boot = refl;
               cause = refl;
               going = no_stopped;
-              can = can_next can named left (ap (λ (s : Sight). s.slots) room.same) ready;
+              can = can_next can named waits left (ap (λ (s : Sight). s.slots) room.same) ready;
               few = omega arith;
               silent = silent_here;
               inside = λ told. work_inside told (quiet told) commits;

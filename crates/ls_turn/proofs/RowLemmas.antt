@@ -1,15 +1,15 @@
 -- Rows and users side by side.
-use Rattle.std.proofs.Common.{◌≡◌, ◌≤◌, ℕ, Bool, true, false, cond, List, [], ◌∷◌, map, length, Option, None, Some, refl, sym, ◌∙◌, ap, subst, arith}
+use Rattle.std.proofs.Common.{◌≡◌, ◌⊎◌, inl, inr, ◌≤◌, ℕ, Bool, true, false, cond, List, [], ◌∷◌, map, length, Option, None, Some, refl, sym, ◌∙◌, ap, subst, arith}
 use Rattle.std.specs.Prelude.{◌==◌, find}
 use Rattle.std.specs.List.{AllZip, Contains}
 use Rattle.std.proofs.lemmas.Bool.{eqb-true, leb-true}
 use Rattle.ls_board.specs.declared.world.World.{World}
 use Rattle.ls_record.specs.declared.row.UserRow.{UserRow}
-use Rattle.ls_record.specs.Rows.{Rec, IsRow, IsRecord, is_token_count}
+use Rattle.ls_record.specs.Rows.{Rec, IsRow, IsRecord, IsBefore, is_token_count}
 use Rattle.ls_standing.specs.Named.{held_of_row}
 use Rattle.ls_standing.specs.Standing.{HoldsUser}
 use Rattle.ls_standing.proofs.ContainsLemmas.{at_first, behind_first}
-use Rattle.ls_standing.proofs.PairLemmas.{each_in}
+use Rattle.ls_standing.proofs.PairLemmas.{each_in, pair_cases}
 use Rattle.ls_vault.specs.declared.state.State.{State}
 use Rattle.ls_vault.specs.declared.user.User.{User}
 use Rattle.ls_vault.specs.Users.{user_of}
@@ -80,14 +80,25 @@ row_found user (x ∷ rows) row found = by (x.user == user) refl found (row_foun
     )
     by false is miss later = let rest = later miss in (behind_first x rows row rest.0, rest.1)
 
+-- no other one is of its user
+pub one_row : (r : Rec) → IsRecord r → (row : UserRow) → Contains r.users row → (other : UserRow) → Contains r.users other → other.user ≡ row.user → other ≡ row
+one_row r is row here other there same = by (pair_cases IsBefore r.users is.pairs other row there here)
+  where
+    by : (other ≡ row) ⊎ (IsBefore other row ⊎ IsBefore row other) → other ≡ row
+    by (inl e) = e
+    by (inr (inl before)) = let less = before.user in let none : ⊥ = omega (arith, less, same) in absurd none
+    by (inr (inr before)) = let less = before.user in let none : ⊥ = omega (arith, less, same) in absurd none
+
 few_count : (escrow : Bool) (n : ℕ) → is_token_count escrow n ≡ true → n ≤ 8
 few_count true n is = leb-true n 8 is
 few_count false n is = let none = eqb-true n 0 is in omega (arith, none)
 
 -- it has at most 8 tokens
+pub few_in : (row : UserRow) → IsRow row → length row.tokens ≤ 8
+few_in row is = few_count row.escrow (length row.tokens) is.few
+
 pub few_tokens : (r : Rec) → IsRecord r → (user : ℕ) (row : UserRow) → row_of r user ≡ Some row → length row.tokens ≤ 8
-few_tokens r rules user row found =
-    few_count row.escrow (length row.tokens) (each_in IsRow r.users row rules.rows (row_found user r.users row found).0).few
+few_tokens r rules user row found = few_in row (each_in IsRow r.users row rules.rows (row_found user r.users row found).0)
 
 -- ---- of a session that agrees
 

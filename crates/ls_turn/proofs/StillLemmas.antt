@@ -1,6 +1,6 @@
 -- Commands that do no action.
 use Rattle.std.proofs.Common.{◌≡◌, ◌≤◌, inl, ℕ, IsTrue, List, refl, sym, ◌∙◌, ap, subst, arith}
-use Rattle.std.specs.Prelude.{◌==◌, [], length, filter, Result, Ok, Err, Some, is_some}
+use Rattle.std.specs.Prelude.{[], Result, Ok, Err, Some, is_some}
 use Rattle.std.specs.List.{Contains}
 use Rattle.ls_board.specs.declared.world.World.{World}
 use Rattle.ls_board.specs.Acts.{Sight}
@@ -23,17 +23,15 @@ use Rattle.ls_standing.specs.Standing.{StandsDurably}
 use Rattle.ls_standing.proofs.QuietLemmas.{durably_left}
 use Rattle.ls_vault.specs.declared.state.State.{State}
 use Rattle.ls_vault.specs.declared.vault.Vault.{Vault}
-use Rattle.ls_vault.specs.Limits.{most_tokens}
 use Rattle.ls_vault.specs.Script.{Stage}
 use Rattle.ls_turn.specs.declared.session.Session.{Session}
-use Rattle.ls_turn.specs.declared.session.Pending.{Pending}
 use Rattle.ls_turn.specs.declared.stop.Stop.{Stop}
 use Rattle.ls_turn.specs.declared.stop.Stop.TheVariants.{Fault, Memory, Stopped}
 use Rattle.ls_turn.specs.declared.stop.Cause.{Cause}
 use Rattle.ls_turn.specs.declared.stop.Cause.TheVariants as cause
 use Rattle.ls_turn.specs.Agreeing.{Agrees, ArePartNames, files_of, retired_files}
-use Rattle.ls_turn.specs.Refusing.{pending_for}
 use Rattle.ls_turn.specs.Serving.{CanServe, IsKeptAs, KeepOnce, KeepApart, Turned, IsBetween, IsTurn, Serves, StaysBare, stage_in, vault_after, users_told}
+use Rattle.ls_turn.proofs.WaitLemmas.{Waits}
 
 -- an image of the world before
 pub left_between : (w image : World) (s : Settled) (old new : Vault) → StandsDurably w s old → Leaves w image → IsBetween w old new image
@@ -72,12 +70,6 @@ abbrev Numbers : Sight → Loaded → ℕ → List Parts → Type 0
 Numbers b settings slots named = IsTrue b.told → (p : Protector) → NamesProtector settings.settled.rec p
     → (n : ℕ) → held_number b.world p ≡ Some n → Contains named (parts_of (is_some (Some n)) p (Some n))
 
-abbrev pub FewPending : Session → Type 0
-FewPending x = (user : ℕ) → length (pending_for x user) ≤ most_tokens
-
-pub few_kept : (x y : Session) → y.pending.items ≡ x.pending.items → FewPending x → FewPending y
-few_kept x y same few user = subst (λ (l : List Pending). length (filter (λ p. p.user == user) l) ≤ most_tokens) (sym same) (few user)
-
 module _ (old : Sight) (x y : Session) (k : HasKept x y) where
   moved : (P : Loaded → ℕ → List Parts → Type 0) → P x.settings x.slots x.named.items → P y.settings y.slots y.named.items
   moved P was =
@@ -91,8 +83,8 @@ module _ (old : Sight) (x y : Session) (k : HasKept x y) where
       (subst (λ (s : Loaded). AreUnnamed old.world s.settled.rec (retired_files x)) (sym k.settings) was)
 
   -- the next call may be made
-  pub can_still : CanServe old x → y.stopped ≡ x.stopped → FewPending y → CanServe old y
-  can_still can stopped pending = record {
+  pub can_still : CanServe old x → y.stopped ≡ x.stopped → Waits y → CanServe old y
+  can_still can stopped waits = record {
     going = stopped ∙ can.going;
     slots = k.slots ∙ can.slots;
     each = moved Each can.each;
@@ -103,7 +95,7 @@ module _ (old : Sight) (x y : Session) (k : HasKept x y) where
     numbers = moved (Numbers old) can.numbers;
     apart = λ told. subst KeepApart (sym k.named) (can.apart told);
     retired = λ told. unnamed_still (can.retired told);
-    pending = pending;
+    waits = waits;
   }
 
   -- nothing is left that isn't named or retired
@@ -143,16 +135,16 @@ module _ (old : Sight) (x y : Session) (turn : Stage → Turned) (fair : World �
       replied_going : (c : Cause) → ◌≡◌ {A = Result Reply Stop} (Ok reply) (Err (Stopped c)) → ⊥
       replied_going c e = cc
 
-      pub still : CanServe old x → y.stopped ≡ x.stopped → FewPending y → users_told reply ≤ 16
+      pub still : CanServe old x → y.stopped ≡ x.stopped → Waits y → users_told reply ≤ 16
           → (IsTrue old.told → (s : State) → Agrees old.world x s → IsTurn (turn (stage_in old.world s)) reply y old.world)
           → Serves old x turn fair (Ok reply) y old
-      still can stopped pending few is = record {
+      still can stopped waits few is = record {
         keeps = replied_keeps;
         slots = k.slots;
         boot = k.boot;
         cause = stopped;
         going = replied_going;
-        can = can_still old x y k can stopped pending;
+        can = can_still old x y k can stopped waits;
         few = few;
         inside = λ told. no_calls;
         silent = λ told. nothing_said;
@@ -208,4 +200,4 @@ module _ (old : Sight) (x : Session) (turn : Stage → Turned) (fair : World →
   pub answered : CanServe old x → users_told reply ≤ 16
       → ((s : State) → Agrees old.world x s → turn (stage_in old.world s) ≡ record { reply = reply; stage = stage_in old.world s })
       → Serves old x turn fair (Ok reply) x old
-  answered can few is = still old x x turn fair (has_kept_all x) reply can refl can.pending few (λ told s agrees. same_turn s agrees (is s agrees))
+  answered can few is = still old x x turn fair (has_kept_all x) reply can refl can.waits few (λ told s agrees. same_turn s agrees (is s agrees))

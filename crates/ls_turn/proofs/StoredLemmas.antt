@@ -166,7 +166,7 @@ stored_can old new x told slots kept can = record {
   numbers = λ now p has n held. let was = was_told now in can.numbers was p has n (held_then was p n held);
   apart = λ now. can.apart (was_told now);
   retired = λ now. let was = was_told now in stored_unnamed old.world new.world (kept was) x.settings.settled.rec (retired_files x) (can.retired was);
-  pending = can.pending;
+  waits = can.waits;
 }
   where
     was_told : IsTrue new.told → IsTrue old.told

@@ -1,5 +1,6 @@
 pub mod Agreeing
 pub mod Refusing
 pub mod Serving
+pub mod Waiting
 pub mod Working
 pub mod Fresh

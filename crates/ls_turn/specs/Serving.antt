@@ -22,7 +22,6 @@ use Rattle.ls_standing.specs.NamedProtectors.{NamesProtector}
 use Rattle.ls_standing.specs.Standing.{StandsDurably}
 use Rattle.ls_vault.specs.declared.state.State.{State}
 use Rattle.ls_vault.specs.declared.vault.Vault.{Vault}
-use Rattle.ls_vault.specs.Limits.{most_tokens}
 use Rattle.ls_vault.specs.Script.{Stage, entry_of, stage_after}
 use Rattle.ls_protector.specs.Clear.{AreUnnamed}
 use Rattle.ls_protector.specs.Parts.{parts_of}
@@ -32,7 +31,7 @@ use Rattle.ls_turn.specs.declared.stop.Cause.TheVariants as cause
 use Rattle.ls_turn.specs.declared.stop.Stop.{Stop}
 use Rattle.ls_turn.specs.declared.stop.Stop.TheVariants.{Fault, Memory, Stopped}
 use Rattle.ls_turn.specs.Agreeing.{Agrees, ArePartNames, retired_files}
-use Rattle.ls_turn.specs.Refusing.{pending_for}
+use Rattle.ls_turn.specs.Waiting.{CanWait}
 
 -- ---- what a call asks
 
@@ -74,8 +73,8 @@ pub record CanServe (b : Sight) (x : Session) : Type 0 where
       → (n : ℕ) → held_number b.world p ≡ Some n → Contains x.named.items (parts_of (is_some (Some n)) p (Some n))
   pub apart : IsTrue b.told → KeepApart x.named.items
   pub retired : IsTrue b.told → AreUnnamed b.world x.settings.settled.rec (retired_files x)
-  -- No user has more pending tokens than tokens may be.
-  pub pending : (user : ℕ) → length (pending_for x user) ≤ most_tokens
+  -- Each token that isn't active yet may become so.
+  pub waits : CanWait x.settings.settled.rec.users x.pending.items
 
 -- ---- a turn of the machine
 

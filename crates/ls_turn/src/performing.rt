@@ -1,12 +1,13 @@
 //! A change of the vault, on any board.
 ghost use Rattle.std.specs.Prelude.{◌≡◌, IsTrue, IfOk, Err};
 ghost use Rattle.ls_board.specs.Acts.{Sight};
-ghost use Rattle.ls_change.specs.Work.{IsQuietWork};
+ghost use Rattle.ls_change.specs.Work.{IsQuietWork, next_of};
 ghost use Rattle.ls_script.specs.declared.reply.Reply.TheVariants as reply;
 ghost use Rattle.ls_settings.specs.Commits.{IsCommit};
 ghost use Rattle.ls_vault.specs.Script.{Stage};
 ghost use Rattle.ls_turn.specs.declared.stop.Stop.TheVariants as stop;
 ghost use Rattle.ls_turn.specs.Serving.{Serves, Turned, CanServe, Always};
+ghost use Rattle.ls_turn.specs.Waiting.{CanWait};
 ghost use Rattle.ls_turn.specs.Working.{Commits, IsSoundWork, KeepsNamed, LeavesKept};
 
 use crate::session::Session;
@@ -24,6 +25,7 @@ pub fn perform<B: Board>(board: &mut B, x: &mut Session, work: Work) -> Result<R
     requires quiet { IsTrue (B.sight board.old).told
         → IsQuietWork (B.sight board.old).world x.old.settings work }
     requires named { KeepsNamed x.old.slots work x.old.named.items }
+    requires waits { CanWait (next_of work).users x.old.pending.items }
     requires left { IsTrue (B.sight board.old).told
         → LeavesKept (B.sight board.old).world work x.old.named.items x.old.retired.items }
     ensures serves { (turn : Stage → Turned)

@@ -22,7 +22,8 @@ use Rattle.ls_standing.specs.Standing.{StandsDurably}
 use Rattle.ls_turn.specs.declared.session.Session.{Session}
 use Rattle.ls_turn.specs.Agreeing.{Agrees, AreNamed, ArePartNames, HaveMetrics, HaveSecrets, files_of, parts_in, retired_files, session_of}
 use Rattle.ls_turn.specs.Serving.{CanServe, IsKeptAs, KeepApart, KeepOnce, KeepsStrange}
-use Rattle.ls_turn.proofs.StillLemmas.{HasKept, FewPending}
+use Rattle.ls_turn.proofs.StillLemmas.{HasKept}
+use Rattle.ls_turn.proofs.WaitLemmas.{waits_kept}
 use Rattle.ls_vault.specs.declared.state.State.{State}
 use Rattle.ls_weaver.specs.declared.slot.Slot.{Slot}
 
@@ -86,8 +87,8 @@ module _ (w mid : World) (a : Alike w mid) where
 
 -- the next call may be made
 pub alike_can : (old new : Sight) (x y : Session) → HasKept x y → new.told ≡ old.told → new.slots ≡ old.slots → (IsTrue old.told → Alike old.world new.world)
-    → y.stopped ≡ x.stopped → FewPending y → CanServe old x → CanServe new y
-alike_can old new x y k told slots alike stopped few can = record {
+    → y.stopped ≡ x.stopped → y.pending.items ≡ x.pending.items → CanServe old x → CanServe new y
+alike_can old new x y k told slots alike stopped pending can = record {
   going = stopped ∙ can.going;
   slots = k.slots ∙ can.slots ∙ sym slots;
   each = λ p has.
@@ -108,7 +109,7 @@ alike_can old new x y k told slots alike stopped few can = record {
       subst (λ (l : List Parts). AreUnnamed new.world y.settings.settled.rec (files_of l)) (sym k.retired)
       (subst (λ (s : Loaded). AreUnnamed new.world s.settled.rec (retired_files x)) (sym k.settings)
       (alike_unnamed old.world new.world (alike (was_told now)) x.settings.settled.rec (retired_files x) (can.retired (was_told now))));
-  pending = few;
+  waits = waits_kept x y k.settings pending can.waits;
 }
   where
     was_told : IsTrue new.told → IsTrue old.told

@@ -41,7 +41,7 @@ use Rattle.ls_turn.specs.Agreeing.{Agrees, HaveMetrics, HaveSecrets, files_of, r
 use Rattle.ls_turn.specs.Refusing.{row_of}
 use Rattle.ls_turn.specs.Serving.{CanServe, IsBetween, IsTurn, MeetsFair, Serves, StaysBare, Turned, stage_in, stopped_by, users_told, vault_after}
 use Rattle.ls_turn.proofs.BehindLemmas.{KeepsSession, LeavesStored, silent-trans}
-use Rattle.ls_turn.proofs.StillLemmas.{HasKept, few_kept}
+use Rattle.ls_turn.proofs.StillLemmas.{HasKept}
 use Rattle.ls_turn.proofs.StoredLemmas.{stored_agrees, stored_bare, stored_durably}
 use Rattle.ls_vault.specs.declared.state.State.{State}
 use Rattle.ls_vault.specs.declared.user.User.{User}
@@ -238,7 +238,7 @@ module _ (row : UserRow) (user : ℕ) (ask : World → Option Action) (look : Wo
         boot = k.boot;
         cause = stopped;
         going = going;
-        can = alike_can old new x y k told_is slots_are alike_told stopped (few_kept x y pending can.pending) can;
+        can = alike_can old new x y k told_is slots_are alike_told stopped pending can;
         few = few;
         silent = silent;
         inside = inside;

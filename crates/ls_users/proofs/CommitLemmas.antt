@@ -50,8 +50,10 @@ use Rattle.ls_turn.specs.declared.session.Opened.{Opened}
 use Rattle.ls_turn.specs.Agreeing.{Agrees, AreNamed, HaveMetrics, HaveSecrets, retired_files}
 use Rattle.ls_turn.specs.Refusing.{row_of}
 use Rattle.ls_turn.specs.Serving.{CanServe, KeepApart, Turned, turned, stage_in}
+use Rattle.ls_turn.specs.Waiting.{CanWait}
 use Rattle.ls_turn.specs.Working.{Commits, IsSoundWork, KeepsNamed, LeadsTo, LeavesKept}
 use Rattle.ls_turn.proofs.RowLemmas.{row_found, user_there}
+use Rattle.ls_turn.proofs.WaitLemmas.{wait_alike}
 use Rattle.ls_users.specs.Pins.{shown_pin}
 use Rattle.ls_users.specs.Putting.{PutsRow}
 use Rattle.ls_users.proofs.AnswerLemmas.{open_now}
@@ -107,6 +109,10 @@ module _ (x : Session) (k : Work) (user : ℕ) (row : UserRow) (found : row_of x
     only = λ q has. let o = can.only q has in (o.0, on_next o.0 o.1, o.2);
     once = can.once;
   }
+
+  pub pin_waits : CanWait r.users x.pending.items → CanWait (next_of k).users x.pending.items
+  pin_waits can = subst (λ (z : Rec). CanWait z.users x.pending.items) (sym puts.next)
+      (wait_alike r x.pending.items can (with_pin on pin row) is row here refl refl refl)
 
   module _ (commits : AllTouchOnly settings_reach k.commit.actions) (w : World) where
     abbrev after : World

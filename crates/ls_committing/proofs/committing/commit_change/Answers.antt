@@ -38,5 +38,5 @@ returns-clause-serves g c = λ turn leads.
     c.in-Ok.ensures.did _
     (became c.args.x.now c.make_room.new.x _ c.args.work.commit.to c.args.work c.make_room.ensures.session c.make_room.ensures.named c.make_room.ensures.retired refl
     c.in-Ok.ensures.becomes c.in-Ok.ensures.bound c.in-Ok.ensures.retires)
-    {T = Committed} c.in-Ok.done c.requires.1.0 c.requires.1.1.1.1.1.1.1.1.1.1.0 c.requires.1.1.1.1.1.1.1.1.1.0 c.requires.1.1.1.1.1.1.1.1.1.1.1
+    {T = Committed} c.in-Ok.done c.requires.1.0 c.requires.1.1.1.1.1.1.1.1.1.1.0 c.requires.1.1.1.1.1.1.1.1.1.1.1.0 c.requires.1.1.1.1.1.1.1.1.1.0 c.requires.1.1.1.1.1.1.1.1.1.1.1.1
     c.in-Ok.ensures.keeps c.exchange.ensures.crash c.in-Ok.ensures.done c.in-Ok.ensures.ready

@@ -3,6 +3,7 @@ use Rattle.ls_record.specs.declared.row.UserRow.{UserRow}
 use Rattle.ls_script.specs.declared.reply.Reply.TheVariants as reply
 use Rattle.ls_turn.specs.Refusing.{pending_for}
 use Rattle.ls_turn.proofs.RowLemmas.{few_tokens}
+use Rattle.ls_turn.proofs.WaitLemmas.{few_pending}
 use Rattle.ls_questions.specs.Answers.{status_in}
 use Rattle.ls_questions.proofs.QuestionLemmas.{status_unknown, status_known}
 use Rattle.ls_questions.proofs.statuses.status.Goals as goal
@@ -14,7 +15,7 @@ pub returns-in-Some-clause-serves : goal.returns-in-Some-clause-serves
 returns-in-Some-clause-serves c = λ old can.
     let found = sym c.in-Some.ensures.same in
     let active = few_tokens c.args.x.now.settings.settled.rec c.in-Some.ensures.kept c.args.user c.in-Some.row.now found in
-    let pending = can.pending c.args.user in
+    let pending = few_pending c.args.x.now.settings.settled.rec.users c.args.x.now.pending.items can.waits c.args.user in
     status_known old c.args.x.now can c.args.user c.in-Some.row.now found c.status_row.result (c.status_row.ensures.same (omega (arith, active)) (omega (arith, pending)))
 
 pub returns-in-Some-clause-tells : goal.returns-in-Some-clause-tells

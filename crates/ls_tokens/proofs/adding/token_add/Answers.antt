@@ -1,5 +1,6 @@
-use Rattle.std.proofs.Common.{◌++◌, ◌∷◌, ℕ, List, [], sym, ◌∙◌, ap, subst}
+use Rattle.std.proofs.Common.{◌≡◌, ◌++◌, ◌∷◌, ℕ, false, List, [], sym, ◌∙◌, ap, subst, arith}
 use Rattle.std.specs.Prelude.{Err}
+use Rattle.ls_arming.specs.Numbers.{contains}
 use Rattle.ls_drawing.proofs.DrawLemmas.{draw_stops}
 use Rattle.ls_script.specs.declared.command.Command.TheVariants as command
 use Rattle.ls_turn.specs.declared.stop.Stop.{Stop}
@@ -43,7 +44,8 @@ returns-in-Ok-put_pending-clause-serves g c =
     let put = c.in-Ok-put_pending.ensures.put in
     add_done x c.args.user c.args.token.now y c.id_by-id.result (sym put.0)
     (put.1 ∙ ap (λ (l : List ℕ). x.pending.items ++ record { user = c.args.user; id = c.id_by-id.result; token = l } ∷ []) c.in-Ok.ensures.token)
-    c.requires.can.pending (sym (c.in-None.ensures.same c.args.token.now))
+    c.requires.can.waits c.in-None.ensures.kept (sym (c.in-None.ensures.same c.args.token.now)) c.id_by-id.ensures.odd (omega (arith, c.id_by-id.type_inv))
+    (subst (λ (l : List ℕ). contains l c.id_by-id.result ≡ false) (c.as_slice-2.ensures.same ∙ c.in-Ok.ensures.taken) c.id_by-id.ensures.free)
     (g.B.Board.sight c.args.board.now) (g.B.Board.sight c.draw.new.board) c.requires.can c.in-Ok-draw.drawn c.in-Ok-draw.ensures.draws
     (c.id_by-id.ensures.same
     ∙ (ap (λ (l : List ℕ). fresh (drawn_number l) c.as_slice-2.result.now) c.as_slice.ensures.same

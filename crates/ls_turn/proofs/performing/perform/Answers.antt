@@ -24,6 +24,6 @@ returns-in-Err-clause-serves g c = λ turn leads.
 pub returns-clause-serves : goal.returns-clause-serves
 returns-clause-serves g c = λ turn leads.
     work_done (g.B.Board.sight c.args.board.now) (g.B.Board.sight c.ready.new.self) (g.B.Board.sight c.carry_out.new.board) c.args.x.now c.args.work turn leads c.in-Some.actions c.in-Some.bytes c.ready.result c.ready.ensures
-    c.carry_out.ensures.rest c.in-Ok.ensures.did _ refl c.in-Ok.ensures.becomes {T = Committed} c.in-Ok.done c.requires.can c.requires.named c.requires.left c.requires.quiet
+    c.carry_out.ensures.rest c.in-Ok.ensures.did _ refl c.in-Ok.ensures.becomes {T = Committed} c.in-Ok.done c.requires.can c.requires.named c.requires.waits c.requires.left c.requires.quiet
     (c.commits_touch_settings_files_alone.ensures c.args.x.now.settings c.args.work.commit.to c.args.work.commit.actions c.requires.prepared)
     c.in-Ok.ensures.keeps c.carry_out.ensures.crash c.in-Ok.ensures.done c.in-Ok.ensures.ready

@@ -8,7 +8,7 @@ use Rattle.ls_turn.specs.Serving.{turned, Always}
 use Rattle.ls_turn.proofs.StillLemmas.{lacking}
 use Rattle.ls_users.specs.Putting.{PutsRow}
 use Rattle.ls_users.proofs.AnswerLemmas.{nobody_serves, locked_serves, locked_refuses, same_serves, same_refuses, worn_serves, worn_refuses, goes_on_refuses}
-use Rattle.ls_users.proofs.CommitLemmas.{pin_may, pin_named, pin_left, pin_commits}
+use Rattle.ls_users.proofs.CommitLemmas.{pin_may, pin_named, pin_waits, pin_left, pin_commits}
 use Rattle.ls_users.proofs.FoundLemmas.{entry_of}
 use Rattle.ls_users.proofs.pins.auto_pin.Goals as goal
 
@@ -82,6 +82,12 @@ perform-requires-clause-named g c =
     pin_named c.args.x.now c.in-Ok-put_row.work c.args.user c.in-Some.row.now (sym c.in-Some.ensures.same) c.args.on c.shown_pin-pin.result c.in-Some.ensures.kept
     (subst (λ (next : UserRow). PutsRow c.args.x.now.settings next c.in-Ok-put_row.work) c.in-Ok.ensures.same c.in-Ok-put_row.ensures.puts)
     (g.B.Board.sight c.args.board.now) c.requires.can
+
+pub perform-requires-clause-waits : goal.perform-requires-clause-waits
+perform-requires-clause-waits g c =
+    pin_waits c.args.x.now c.in-Ok-put_row.work c.args.user c.in-Some.row.now (sym c.in-Some.ensures.same) c.args.on c.shown_pin-pin.result c.in-Some.ensures.kept
+    (subst (λ (next : UserRow). PutsRow c.args.x.now.settings next c.in-Ok-put_row.work) c.in-Ok.ensures.same c.in-Ok-put_row.ensures.puts)
+    c.requires.can.waits
 
 pub perform-requires-clause-left : goal.perform-requires-clause-left
 perform-requires-clause-left g c = λ told.
