@@ -3,14 +3,14 @@ use Rattle.std.proofs.Common.{◌≡◌, ◌<◌, ◌≤◌, ℕ, true, List, []
 use Rattle.std.specs.Prelude.{Err}
 use Rattle.ls_board.specs.Acts.{Sight}
 use Rattle.ls_board.specs.Reach.{AllTouchOnly}
-use Rattle.ls_change.specs.Work.{IsQuietWork}
+use Rattle.ls_change.specs.Work.{IsQuietWork, next_of}
 use Rattle.ls_committing.specs.Committing.{IsReadied, CommitsChange, named_then, retired_then}
 use Rattle.ls_credential.specs.Counts.{KindAndCounts}
 use Rattle.ls_credential.specs.Rules.{KindAndText}
 use Rattle.ls_exchange.specs.Exchanges.{Exchanged, plain, AreNew, AreNamed, AreLeftOut}
 use Rattle.ls_formats.specs.declared.parts.Parts.{Parts}
 use Rattle.ls_record.specs.declared.row.UserRow.{UserRow}
-use Rattle.ls_record.specs.Rows.{is_protector_id}
+use Rattle.ls_record.specs.Rows.{Rec, is_protector_id}
 use Rattle.ls_sealing.specs.Protectors.{HasNumbers}
 use Rattle.ls_settings.specs.Commits.{IsCommit}
 use Rattle.ls_settings.specs.Loaded.{Loaded, settings_reach}
@@ -20,12 +20,14 @@ use Rattle.ls_standing.proofs.IdLemmas.{is_row}
 use Rattle.ls_vault.specs.declared.state.State.{State}
 use Rattle.ls_vault.specs.Revealed.{shown_metrics}
 use Rattle.ls_vault.specs.Script.{Stage}
+use Rattle.ls_turn.specs.declared.session.Pending.{Pending}
 use Rattle.ls_turn.specs.declared.session.Session.{Session}
 use Rattle.ls_turn.specs.declared.stop.Stop.{Stop}
 use Rattle.ls_turn.specs.Agreeing.{Agrees, ArePartNames, files_of}
 use Rattle.ls_turn.specs.Serving.{CanServe, Serves, Turned, Always, stage_in}
+use Rattle.ls_turn.specs.Waiting.{CanWait}
 use Rattle.ls_turn.specs.Working.{IsSoundWork, KeepsNamed, LeavesKept, LeadsTo}
-use Rattle.ls_turn.proofs.StillLemmas.{few_kept}
+use Rattle.ls_turn.proofs.WaitLemmas.{wait_alike}
 use Rattle.ls_changing.specs.declared.planned.Planned.{Planned}
 use Rattle.ls_changing.specs.Keeping.{with_metrics, IsReady, HasId}
 use Rattle.ls_changing.specs.Planning.{IsPlannedFor, chosen_of, exchange_of, changed_turn}
@@ -71,7 +73,6 @@ module _ (b : Sight) (x : Session) (user : ℕ) (c : KindAndText) (k : Planned) 
       settings = ready.settings;
       retired = ready.retired;
       stopped = ready.stopped;
-      pending = few_kept x y ready.pending can.pending;
     }
 
     abbrev names_now : List Parts
@@ -82,6 +83,12 @@ module _ (b : Sight) (x : Session) (user : ℕ) (c : KindAndText) (k : Planned) 
 
     retired_is : retired_then y work ≡ x.retired.items ++ q ∷ []
     retired_is = ap (λ (z : Exchanged). retired_then y z) same ∙ ap (λ (l : List Parts). l ++ q ∷ []) ready.retired
+
+    pub is_waiting : CanWait (next_of (plain work)).users y.pending.items
+    is_waiting = subst (λ (l : List Pending). CanWait (next_of (plain work)).users l) (sym ready.pending)
+        (subst (λ (z : Exchanged). CanWait (next_of (plain z)).users x.pending.items) (sym same)
+        (subst (λ (r : Rec). CanWait r.users x.pending.items) (sym p.plan.next)
+        (wait_alike x.settings.settled.rec x.pending.items can.waits (row_then (chosen_of row c k)) p.rules row p.plan.chosen.here refl refl refl)))
 
     pub is_sound : IsSoundWork y.slots (plain work)
     is_sound = subst (λ (n : ℕ). IsSoundWork n (plain work)) (sym ready.slots)

@@ -8,7 +8,6 @@ pub mod TurnLemmas
 pub mod ListLemmas
 pub mod SessionLemmas
 pub mod LeadLemmas
-pub mod PassingLemmas
 pub mod ChoiceLemmas
 pub mod PlanLemmas
 pub mod CarryLemmas

@@ -2,4 +2,3 @@ pub mod Replacing
 pub mod Planning
 pub mod Keeping
 pub mod Drawing
-pub mod Passing

@@ -5,7 +5,7 @@ ghost use Rattle.ls_script.specs.declared.command.Command.TheVariants as command
 ghost use Rattle.ls_turn.specs.declared.stop.Stop.TheVariants as stop;
 ghost use Rattle.ls_turn.specs.Refusing.{own_refusal, Refuses};
 ghost use Rattle.ls_turn.specs.Serving.{CanServe, Serves, turned, Always};
-ghost use Rattle.ls_changing.specs.Passing.{Passes, IsStored};
+ghost use Rattle.ls_drawing.specs.Passing.{Passes, IsStored};
 ghost use Rattle.ls_changing.specs.Planning.{IsReadyFor};
 
 use crate::carrying::carried;
@@ -48,12 +48,12 @@ pub fn change<B: Board>(
     board: &mut B,
     x: &mut Session,
     user: u32,
-    new: Credential,
+    new: &Credential,
 ) -> Result<Reply, Stop>
     requires can { CanServe (B.sight board.old) x.old }
     ensures serves { Serves (B.sight board.old) x.old
-        (turned x.old.slots (command.Change user new)) Always result x.new (B.sight board.new) }
-    ensures refuses { Refuses (own_refusal x.old (command.Change user new)) (B.sight board.old) x.old
+        (turned x.old.slots (command.Change user new.now)) Always result x.new (B.sight board.new) }
+    ensures refuses { Refuses (own_refusal x.old (command.Change user new.now)) (B.sight board.old) x.old
         result x.new (B.sight board.new) }
     // Want of memory comes before anything that is stored is changed.
     ensures untouched { result ≡ Err stop.Memory → IsTrue (B.sight board.old).told
@@ -63,8 +63,8 @@ pub fn change<B: Board>(
         Some(why) => return Ok(Reply::No(why)),
         None => {}
     }
-    match planned_for(board, x, user, &new) {
-        Ok(plan) => carried(board, x, user, &new, plan),
+    match planned_for(board, x, user, new) {
+        Ok(plan) => carried(board, x, user, new, plan),
         Err(fault) => Err(stop_by(x, fault)),
     }
 }

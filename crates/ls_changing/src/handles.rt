@@ -5,7 +5,7 @@ ghost use Rattle.ls_board.specs.Gatekeeper.{signed};
 ghost use Rattle.ls_secret.specs.declared.personal.Personal.TheVariants.{SpGkAuthentication as OfHandle};
 ghost use Rattle.ls_secret.specs.Derivation.{subkey_of};
 ghost use Rattle.ls_secret.specs.Subkeys.{subkey_bytes};
-ghost use Rattle.ls_changing.specs.Passing.{Passes};
+ghost use Rattle.ls_drawing.specs.Passing.{Passes};
 
 use ls_board::{Board, BoardFault};
 use ls_protector::sign;

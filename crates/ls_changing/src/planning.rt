@@ -10,7 +10,7 @@ ghost use Rattle.ls_placing.specs.Placing.{slots_of};
 ghost use Rattle.ls_sealing.specs.Protectors.{Protector};
 ghost use Rattle.ls_standing.specs.NamedProtectors.{NamesProtector};
 ghost use Rattle.ls_turn.specs.Serving.{CanServe, IsKeptAs};
-ghost use Rattle.ls_changing.specs.Passing.{Passes};
+ghost use Rattle.ls_drawing.specs.Passing.{Passes};
 ghost use Rattle.ls_changing.specs.Planning.{IsPlan, IsChoice, IsDrawnFor, draw_len};
 
 use crate::drawn::{drawn_len, handle_salt, own_len, protector_bytes};

@@ -2,3 +2,5 @@ mod NumberLemmas
 mod SlotLemmas
 mod IdLemmas
 mod ClearLemmas
+pub mod StayLemmas
+pub mod RoomLemmas

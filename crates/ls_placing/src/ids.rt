@@ -41,7 +41,7 @@ fn id_of(file: FileName) -> Option<u64>
 }
 
 /// The id that a name of a file says, if it says one.
-fn id_in(name: &Name) -> Option<u64>
+pub fn id_in(name: &Name) -> Option<u64>
     ensures says { SaysOne name.now result }
 {
     match FileName::parse(name.as_slice()) {

@@ -13,8 +13,8 @@ use Rattle.ls_changing.specs.declared.planned.Planned.{Planned}
 use Rattle.ls_changing.specs.Keeping.{HasId}
 use Rattle.ls_changing.specs.Planning.{chosen_of}
 use Rattle.ls_changing.specs.Replacing.{row_then}
-use Rattle.ls_changing.proofs.CarryLemmas.{new_numbers, gone_there, is_readied, is_sound, is_prepared, are_named, are_files, keeps_named, is_quiet, is_fresh, is_left_out, is_left, carries, ready_by, lacks}
-use Rattle.ls_changing.proofs.PassingLemmas.{passes_lacking}
+use Rattle.ls_changing.proofs.CarryLemmas.{new_numbers, gone_there, is_readied, is_sound, is_prepared, are_named, are_files, keeps_named, is_waiting, is_quiet, is_fresh, is_left_out, is_left, carries, ready_by, lacks}
+use Rattle.ls_drawing.proofs.PassingLemmas.{passes_lacking}
 use Rattle.ls_changing.proofs.carrying.carried.Goals as goal
 
 pub take_named-gone-requires : goal.take_named-gone-requires
@@ -75,7 +75,10 @@ commit_change-requires g c = λ κs le.
                         are_files b g.before c.args.user new k p can taken.0 taken.1 q split c.take_named-gone.ensures.id y ready work same,
                         (
                           keeps_named b g.before c.args.user new k p can taken.0 taken.1 q split c.take_named-gone.ensures.id y ready work same,
-                          is_left b g.before c.args.user new k p can taken.0 taken.1 q split c.take_named-gone.ensures.id y ready work same few lens free commits,
+                          (
+                            is_waiting b g.before c.args.user new k p can taken.0 taken.1 q split c.take_named-gone.ensures.id y ready work same,
+                            is_left b g.before c.args.user new k p can taken.0 taken.1 q split c.take_named-gone.ensures.id y ready work same few lens free commits,
+                          ),
                         ),
                       ),
                     ),

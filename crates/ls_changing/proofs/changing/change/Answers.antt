@@ -10,13 +10,13 @@ use Rattle.ls_changing.proofs.RefusalLemmas.{change_refused, turn_kept, fine_ref
 use Rattle.ls_changing.proofs.changing.change.Goals as goal
 
 pub returns-in-Some-clause-serves : goal.returns-in-Some-clause-serves
-returns-in-Some-clause-serves g c = change_refused c.args.x.now c.args.user c.args.new (g.B.Board.sight c.args.board.now) c.requires.can c.in-Some.why (sym (c.in-Some.ensures.same c.args.new))
+returns-in-Some-clause-serves g c = change_refused c.args.x.now c.args.user c.args.new.now (g.B.Board.sight c.args.board.now) c.requires.can c.in-Some.why (sym (c.in-Some.ensures.same c.args.new.now))
 
 pub returns-in-Some-clause-refuses : goal.returns-in-Some-clause-refuses
-returns-in-Some-clause-refuses g c = refuses _ (g.B.Board.sight c.args.board.now) c.args.x.now c.in-Some.why (sym (c.in-Some.ensures.same c.args.new))
+returns-in-Some-clause-refuses g c = refuses _ (g.B.Board.sight c.args.board.now) c.args.x.now c.in-Some.why (sym (c.in-Some.ensures.same c.args.new.now))
 
 pub planned_for-requires-clause-goes : goal.planned_for-requires-clause-goes
-planned_for-requires-clause-goes g c = sym (c.in-None.ensures.same c.args.new)
+planned_for-requires-clause-goes g c = sym (c.in-None.ensures.same c.args.new.now)
 
 pub carried-requires : goal.carried-requires
 carried-requires g c κs within = (within, (refl, (c.in-Ok.ensures.passes.goes.can c.args.x.now c.requires.can, c.in-Ok.ensures.plan.planned)))
@@ -28,26 +28,26 @@ returns-in-Ok-clause-serves g c =
     let mid = g.B.Board.sight c.planned_for.new.board in
     let goes = c.in-Ok.ensures.passes.goes in
     let plan = c.in-Ok.ensures.plan in
-    let turn = turned x.slots (command.Change c.args.user c.args.new) in
+    let turn = turned x.slots (command.Change c.args.user c.args.new.now) in
     let told_old : IsTrue mid.told → IsTrue old.told = λ told. subst (λ (b : Bool). IsTrue b) goes.told told in
     goes.serves x c.carried.new.x turn c.carried.result (g.B.Board.sight c.carried.new.board)
     (c.carried.ensures.serves plan.planned (λ at. turn (stage_in old.world at.state))
-    (λ told s agrees. turn_kept x c.args.user c.args.new (sym (c.in-None.ensures.same c.args.new)) plan.planned.row plan.planned.found old.world mid.world plan.planned.drawn
+    (λ told s agrees. turn_kept x c.args.user c.args.new.now (sym (c.in-None.ensures.same c.args.new.now)) plan.planned.row plan.planned.found old.world mid.world plan.planned.drawn
     (plan.bytes (told_old told)) (plan.noise (told_old told)) s agrees))
 
 pub returns-in-Ok-clause-refuses : goal.returns-in-Ok-clause-refuses
 returns-in-Ok-clause-refuses g c =
-    fine_refuses _ (g.B.Board.sight c.args.board.now) c.args.x.now c.carried.result c.carried.new.x (g.B.Board.sight c.carried.new.board) (sym (c.in-None.ensures.same c.args.new)) c.carried.ensures.fine
+    fine_refuses _ (g.B.Board.sight c.args.board.now) c.args.x.now c.carried.result c.carried.new.x (g.B.Board.sight c.carried.new.board) (sym (c.in-None.ensures.same c.args.new.now)) c.carried.ensures.fine
 
-pub returns-clause-serves : goal.returns-clause-serves
-returns-clause-serves g c =
+pub returns-in-Err-clause-serves : goal.returns-in-Err-clause-serves
+returns-in-Err-clause-serves g c =
     let x = c.args.x.now in
     let old = g.B.Board.sight c.args.board.now in
     let new = g.B.Board.sight c.planned_for.new.board in
-    let turn = turned x.slots (command.Change c.args.user c.args.new) in
+    let turn = turned x.slots (command.Change c.args.user c.args.new.now) in
     subst (λ (e : Stop). Serves old x turn Always (Err e) c.stop_by.new.x new) (sym c.stop_by.ensures.stop)
     (subst (λ (y : Session). Serves old x turn Always (Err (stop_of c.in-Err.fault)) y new) (sym c.stop_by.ensures.stopped) (c.in-Err.ensures.passes.stops x turn))
 
-pub returns-clause-refuses : goal.returns-clause-refuses
-returns-clause-refuses g c =
-    err_refuses _ (g.B.Board.sight c.args.board.now) c.args.x.now c.stop_by.result c.stop_by.new.x (g.B.Board.sight c.planned_for.new.board) (sym (c.in-None.ensures.same c.args.new))
+pub returns-in-Err-clause-refuses : goal.returns-in-Err-clause-refuses
+returns-in-Err-clause-refuses g c =
+    err_refuses _ (g.B.Board.sight c.args.board.now) c.args.x.now c.stop_by.result c.stop_by.new.x (g.B.Board.sight c.planned_for.new.board) (sym (c.in-None.ensures.same c.args.new.now))

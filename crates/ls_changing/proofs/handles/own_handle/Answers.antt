@@ -1,4 +1,4 @@
-use Rattle.ls_changing.proofs.PassingLemmas.{passes_reading}
+use Rattle.ls_drawing.proofs.PassingLemmas.{passes_reading}
 use Rattle.ls_changing.proofs.handles.own_handle.Goals as goal
 
 pub returns-in-Ok-clause-passes : goal.returns-in-Ok-clause-passes

@@ -1,4 +1,4 @@
-use Rattle.ls_changing.proofs.PassingLemmas.{passes_then, passes_drawing, goes_drawn, stored_drawn}
+use Rattle.ls_drawing.proofs.PassingLemmas.{passes_then, passes_drawing, goes_drawn, stored_drawn}
 use Rattle.ls_changing.proofs.planning.planned.Goals as goal
 
 pub returns-in-Err-clause-passes : goal.returns-in-Err-clause-passes

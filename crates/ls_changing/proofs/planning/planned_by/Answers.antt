@@ -1,4 +1,4 @@
-use Rattle.ls_changing.proofs.PassingLemmas.{passes_lacking}
+use Rattle.ls_drawing.proofs.PassingLemmas.{passes_lacking}
 use Rattle.ls_changing.proofs.planning.planned_by.Goals as goal
 
 pub chosen-requires-clause-room : goal.chosen-requires-clause-room

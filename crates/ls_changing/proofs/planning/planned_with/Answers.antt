@@ -12,7 +12,7 @@ use Rattle.ls_protector.specs.Drafts.{drafted, MayBeAsked}
 use Rattle.ls_sealing.specs.Building.{for_credential}
 use Rattle.ls_changing.specs.Planning.{chosen_by}
 use Rattle.ls_changing.proofs.ChoiceLemmas.{bytes_long, bytes_each}
-use Rattle.ls_changing.proofs.PassingLemmas.{passes_then, passes_lacking, passes_reading, passes_as, passes_err}
+use Rattle.ls_drawing.proofs.PassingLemmas.{passes_then, passes_lacking, passes_reading, passes_as, passes_err}
 use Rattle.ls_changing.proofs.PlanLemmas.{plan_is}
 use Rattle.ls_changing.proofs.RowLemmas.{may}
 use Rattle.ls_changing.proofs.planning.planned_with.Goals as goal

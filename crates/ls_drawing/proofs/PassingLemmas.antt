@@ -17,7 +17,7 @@ use Rattle.ls_turn.specs.Serving.{Always, stage_in, stopped_by}
 use Rattle.ls_turn.proofs.BehindLemmas.{KeepsSession, keeps_none, keeps_reading, reading_failed, reading_lacked, behind}
 use Rattle.ls_turn.proofs.StillLemmas.{HasKept, lacking}
 use Rattle.ls_turn.proofs.StoredLemmas.{stored_can, draw_stores}
-use Rattle.ls_changing.specs.Passing.{GoesOn, StopsBy, Passes, IsStored}
+use Rattle.ls_drawing.specs.Passing.{GoesOn, StopsBy, Passes, IsStored}
 
 abbrev stopped : Session → BoardFault → Session
 stopped x fault = record x { stopped = stopped_by (stop_of fault) x.stopped }
