@@ -1,0 +1,6 @@
+pub mod StayLemmas
+pub mod TidyingLemmas
+pub mod BehindLemmas
+mod PlaceLemmas
+mod StepLemmas
+mod IdLemmas
