@@ -1,0 +1,10 @@
+pub mod RowLemmas
+pub mod StagedLemmas
+pub mod ReadyLemmas
+pub mod ChoiceLemmas
+pub mod BareLemmas
+pub mod SessionLemmas
+pub mod LeadLemmas
+pub mod CarryLemmas
+pub mod TurnLemmas
+pub mod RefusalLemmas
