@@ -127,14 +127,14 @@ module _ (w : World) (r : Rec) (is : IsRecord r) (row : UserRow) (there : Contai
       other_secure (has_weaver w) next row.secure next_is
       (odd_by row.kind row.secure (is_row r is row there).secure.0 some) (secure_apart some)
 
-  forget_touch : (b : Bool) → has_secure row ≡ b → AllTouchOnly (unnamed w next) (only_if b (GkForget row.secure ∷ []))
+  pub forget_touch : (b : Bool) → has_secure row ≡ b → AllTouchOnly (unnamed w next) (only_if b (GkForget row.secure ∷ []))
   forget_touch true some = (secure_gone some, tt)
   forget_touch false none = tt
 
   -- ---- its own files
 
   -- a file that a row names is of its user
-  file_user : (weaver : Bool) (armed : Option Arming) (x : UserRow) (name : PartOf) → Contains (row_files weaver armed x) name → name.user ≡ x.user
+  pub file_user : (weaver : Bool) (armed : Option Arming) (x : UserRow) (name : PartOf) → Contains (row_files weaver armed x) name → name.user ≡ x.user
   file_user weaver armed x name h = by (Contains-append_cases one (two ++ three) name h)
     where
       one : List PartOf
@@ -159,19 +159,19 @@ module _ (w : World) (r : Rec) (is : IsRecord r) (row : UserRow) (there : Contai
   abbrev own_of : FilePart → PartOf
   own_of part = record { user = row.user; id = 0; part = part }
 
-  own_is : (part : FilePart) → Contains (user_parts r.armed row) part → IsPartOf (own_of part)
+  pub own_is : (part : FilePart) → Contains (user_parts r.armed row) part → IsPartOf (own_of part)
   own_is part h =
       record_named (has_weaver w) r is (own_of part)
       (in_flat (row_files (has_weaver w) r.armed) r.users row (own_of part) there
       (Contains-append_left (parts_of row.user 0 (user_parts r.armed row)) (parts_of row.user row.protector (credential_parts (has_weaver w) row.kind) ++ token_files (has_weaver w) row) (own_of part)
       (in_map own_of (user_parts r.armed row) part h)))
 
-  own_gone : (part : FilePart) → ¬ (NamesFile (has_weaver w) next (own_of part))
+  pub own_gone : (part : FilePart) → ¬ (NamesFile (has_weaver w) next (own_of part))
   own_gone part named =
       let found = of_flat (row_files (has_weaver w) next.armed) next.users (own_of part) named in
       (of_drop w r row.user is found.0 found.1).1 (sym (file_user (has_weaver w) next.armed found.0 (own_of part) found.2))
 
-  own_touch : (parts : List FilePart) → ((part : FilePart) → Contains parts part → IsPartOf (own_of part)) → AllTouchOnly (unnamed w next) (own_removes row.user parts)
+  pub own_touch : (parts : List FilePart) → ((part : FilePart) → Contains parts part → IsPartOf (own_of part)) → AllTouchOnly (unnamed w next) (own_removes row.user parts)
   own_touch [] each = tt
   own_touch (part ∷ parts) each = (
     file_unnamed w next (own_of part) next_is (each part (at_first part parts)) (own_gone part),
@@ -193,7 +193,7 @@ module _ (w : World) (r : Rec) (is : IsRecord r) (row : UserRow) (there : Contai
   slot_away None = tt
   slot_away (Some n) = (refl, tt)
 
-  forget_away : (b : Bool) (sid : ℕ) → AllTakeAway (only_if b (GkForget sid ∷ []))
+  pub forget_away : (b : Bool) (sid : ℕ) → AllTakeAway (only_if b (GkForget sid ∷ []))
   forget_away true sid = (tt, tt)
   forget_away false sid = tt
 
@@ -208,7 +208,7 @@ module _ (w : World) (r : Rec) (is : IsRecord r) (row : UserRow) (there : Contai
       (tt, forget_away (is_enrolled (is_some b.place.slot) p.purpose) p.id))
       (erase_away all))
 
-  own_away : (parts : List FilePart) → ((part : FilePart) → Contains parts part → IsPartOf (own_of part)) → AllTakeAway (own_removes row.user parts)
+  pub own_away : (parts : List FilePart) → ((part : FilePart) → Contains parts part → IsPartOf (own_of part)) → AllTakeAway (own_removes row.user parts)
   own_away [] each = tt
   own_away (part ∷ parts) each = ((own_of part, each part (at_first part parts), refl), own_away parts (λ q h. each q (behind_first part parts q h)))
 

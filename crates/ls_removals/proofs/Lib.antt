@@ -1,0 +1,14 @@
+mod GoneLemmas
+mod ErasingLemmas
+mod LettingLemmas
+mod LeavingLemmas
+mod ReadiedLemmas
+mod ForgettingLemmas
+mod LessLemmas
+mod TurnLemmas
+mod ReplacedLemmas
+mod StoredLemmas
+mod TokenLemmas
+mod EscrowLemmas
+mod EndingLemmas
+mod UserLemmas
