@@ -1,0 +1,9 @@
+mod GoingLemmas
+mod TakingLemmas
+mod TurnLemmas
+mod ClearingLemmas
+mod CarryLemmas
+mod RoomLemmas
+mod EndingLemmas
+mod ArmedLemmas
+mod PreparedLemmas
