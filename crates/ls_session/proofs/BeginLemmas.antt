@@ -1,6 +1,7 @@
 -- A sync, and the loading of the settings.
-use Rattle.std.proofs.Common.{◌≡◌, ◌≢◌, ⊎_elim, inl, inr, ◌++◌, ℕ, Bool, IsTrue, List, [], ◌∷◌, Option, Some, refl, sym, ◌∙◌, ap, subst, arith}
+use Rattle.std.proofs.Common.{◌≡◌, ◌≢◌, ⊎_elim, inl, inr, ◌++◌, ℕ, Bool, IsTrue, List, [], ◌∷◌, Option, Some, refl, sym, ◌∙◌, ap, subst, arith, append_assoc}
 use Rattle.std.specs.Prelude.{Result, Ok, Err, IfOk, OnOk}
+use Rattle.std.specs.FinMap.Entries.{where_key}
 use Rattle.ls_board.specs.declared.action.Action.{Action}
 use Rattle.ls_board.specs.declared.action.Action.TheVariants.{Sync}
 use Rattle.ls_board.specs.declared.action.BoardFault.{BoardFault}
@@ -10,9 +11,10 @@ use Rattle.ls_board.specs.declared.world.World.{World}
 use Rattle.ls_board.specs.Acts.{Sight, Rose}
 use Rattle.ls_board.specs.Effect.{file_at, after}
 use Rattle.ls_board.specs.Images.{Leaves, Within}
+use Rattle.ls_board.specs.Order.{byte_cmp}
 use Rattle.ls_board.specs.Keeping.{Keeps}
 use Rattle.ls_board.specs.Reach.{SameBut}
-use Rattle.ls_board.specs.Runs.{LeavesOnly}
+use Rattle.ls_board.specs.Runs.{LeavesOnly, AllImages}
 use Rattle.ls_board.proofs.FrameLemmas.{same_refl, same_trans, same_within}
 use Rattle.ls_formats.specs.declared.side.Side.TheVariants.{First, Second}
 use Rattle.ls_formats.specs.PartNames.{settings_text}
@@ -59,6 +61,10 @@ called_world old new call none = ⊎_elim
 untouched : (w : World) → AreUntouched (synced_world w)
 untouched w = λ side. refl
 
+all_append : (P : World → Type 0) (xs ys : List (World × Option Action)) → AllImages P xs → AllImages P ys → AllImages P (xs ++ ys)
+all_append P [] ys all more = more
+all_append P (x ∷ xs) ys all more = (all.0, all.1, all_append P xs ys all.2 more)
+
 -- an image of it is one of the loading
 image_loads : (w image : World) → Leaves (synced_world w) image → IsLoadImage (synced_world w) image
 image_loads w image left = record {
@@ -66,6 +72,39 @@ image_loads w image left = record {
   each = λ side. inl (left.each (settings_text side));
   rest = (synced_world w, same_refl settings_reach (synced_world w), left);
 }
+
+-- where no file is touched a sync changes nothing
+still_synced : (w : World) → w.touched ≡ [] → w ≡ synced_world w
+still_synced w none = λ i. record w { touched = none i }
+
+within_synced : (w v : World) → w.touched ≡ [] → Within w Sync v → v ≡ synced_world w
+within_synced w v none within = within.is ∙ (λ i. record w { touched = where_key byte_cmp within.still (none i) })
+
+-- then each image within it is one of the loading
+sync_call : (w : World) → w.touched ≡ [] → AllImages (IsLoadImage (synced_world w)) ((w, Some Sync) ∷ [])
+sync_call w none = (
+  λ image left. image_loads w image (subst (λ (v : World). Leaves v image) (still_synced w none) left),
+  λ image left. image_loads w image (subst (λ (v : World). Leaves v image) (within_synced w left.0 none left.1) left.2),
+  tt,
+)
+
+called_whole : (old new : Sight) → Calls old Sync new → old.world.touched ≡ [] → LeavesOnly old new (IsLoadImage (synced_world old.world))
+called_whole old new call none = ⊎_elim
+    (λ (not : (new.past ≡ old.past) × (new.world ≡ old.world)). record {
+      calls = [];
+      joined = not.0;
+      each = tt;
+      now = λ image left. image_loads old.world image (subst (λ (v : World). Leaves v image) (not.1 ∙ still_synced old.world none) left);
+    })
+    (λ (made : (new.past ≡ (old.world, Some Sync) ∷ old.past) × IsOuterStep old.world Sync new.world). record {
+      calls = (old.world, Some Sync) ∷ [];
+      joined = made.0;
+      each = sync_call old.world none;
+      now = λ image left. image_loads old.world image (subst (λ (v : World). Leaves v image)
+          (⊎_elim (λ (within : Within old.world Sync new.world). within_synced old.world new.world none within)
+          (λ (whole : (n : ℕ) × (new.world ≡ after old.world Sync n)). whole.1) made.1) left);
+    })
+    call
 
 module _ (old mid : Sight) where
   -- it failed
@@ -91,6 +130,7 @@ module _ (old mid : Sight) where
       now = λ settled image left. image_loads old.world image
           (subst (λ (w : World). Leaves w image) (called_world old mid (syncs.called told) (⊎_elim (λ (none : mid.world.touched ≡ []). none) (λ (some : [] ≢ []). absurd (some refl)) settled)) left);
     };
+    whole = λ told none. called_whole old mid (syncs.called told) none;
     begun = λ told. tt;
   }
     where
@@ -148,6 +188,12 @@ module _ (old mid new : Sight) {T : Type 0} (done : T) (syncs : SyncsFirst {T = 
       joined = inr (joined told);
       each = (crash told).each;
       now = λ settled image left. (crash told).now image left;
+    };
+    whole = λ told none. record {
+      calls = (crash told).calls ++ (old.world, Some Sync) ∷ [];
+      joined = joined told ∙ sym (append_assoc (crash told).calls ((old.world, Some Sync) ∷ []) old.past);
+      each = all_append (IsLoadImage (synced_world old.world)) (crash told).calls ((old.world, Some Sync) ∷ []) (crash told).each (sync_call old.world none);
+      now = (crash told).now;
     };
     begun = λ told. begun result ((crash told).calls, joined told, (crash told).each, (crash told).now);
   }

@@ -1,8 +1,9 @@
 -- Opening, from its parts.
-use Rattle.std.proofs.Common.{◌≡◌, ◌≢◌, ⊎_elim, inl, inr, ◌≤◌, ℕ, Bool, true, false, IsTrue, List, [], ◌∷◌, length, Option, None, Some, refl, sym, ◌∙◌, ap, subst, arith}
+use Rattle.std.proofs.Common.{◌≡◌, ◌≢◌, ⊎_elim, inl, inr, ℕ, Bool, true, false, IsTrue, List, [], ◌∷◌, ◌++◌, length, Option, None, Some, refl, sym, ◌∙◌, ap, subst, arith, append_assoc}
 use Rattle.std.specs.Prelude.{Result, Ok, Err, OnOk, map, is_some}
 use Rattle.std.specs.List.{Contains, AllZip}
 use Rattle.std.specs.Option.{option_and_then}
+use Rattle.std.proofs.lemmas.List.{append_cancel_right}
 use Rattle.ls_board.specs.declared.action.Action.{Action}
 use Rattle.ls_board.specs.declared.action.Action.TheVariants.{Sync}
 use Rattle.ls_board.specs.declared.action.BoardFault.{BoardFault}
@@ -13,7 +14,7 @@ use Rattle.ls_board.specs.Acts.{Sight, Rose}
 use Rattle.ls_board.specs.Effect.{file_at}
 use Rattle.ls_board.specs.Images.{Leaves}
 use Rattle.ls_board.specs.Keeping.{Keeps}
-use Rattle.ls_board.specs.Reach.{Reach, SameBut}
+use Rattle.ls_board.specs.Reach.{Reach, SameBut, LeavesBut}
 use Rattle.ls_board.specs.Rest.{SameRest}
 use Rattle.ls_board.specs.Runs.{LeavesOnly, AllImages}
 use Rattle.ls_board.proofs.RunLemmas.{joins, weaker}
@@ -24,6 +25,7 @@ use Rattle.ls_naming.specs.Current.{Settled, Foreign, current}
 use Rattle.ls_naming.specs.Named.{row_files}
 use Rattle.ls_record.specs.Rows.{Rec, IsRecord}
 use Rattle.ls_sealing.specs.Protectors.{Protector, has_weaver, has_part, held_number, slot_number, where_it_has}
+use Rattle.ls_serving.specs.Calls.{IsSilent}
 use Rattle.ls_serving.specs.Settled.{LeavesOnlySettled}
 use Rattle.ls_settings.specs.declared.fault.OpenRefusal.{OpenRefusal}
 use Rattle.ls_settings.specs.declared.fault.OpenRefusal.TheVariants.{Foreign as IsForeign, Fault}
@@ -34,6 +36,7 @@ use Rattle.ls_standing.specs.Bare.{IsBare}
 use Rattle.ls_standing.specs.Books.{books}
 use Rattle.ls_standing.specs.NamedProtectors.{row_protectors, named_protectors, NamesProtector}
 use Rattle.ls_standing.specs.Opening.{first_foreign}
+use Rattle.ls_standing.specs.Quiet.{unnamed}
 use Rattle.ls_standing.specs.Same.{SameNamed}
 use Rattle.ls_standing.specs.Standing.{StandsBy, StandsDurably, NamedAreUntouched}
 use Rattle.ls_standing.proofs.BareLemmas.{strange_kept}
@@ -54,7 +57,7 @@ use Rattle.ls_turn.proofs.FreshLemmas.{none_left, none_retired}
 use Rattle.ls_turn.proofs.WaitLemmas.{none_wait}
 use Rattle.ls_protector.specs.Parts.{parts_of}
 use Rattle.ls_session.specs.Checking.{Checks}
-use Rattle.ls_session.specs.Opening.{Begins, Opens, IsFirstFault, synced_world}
+use Rattle.ls_session.specs.Opening.{Begins, Opens, IsFirstFault, IsStillBy, BeginsWithSync, synced_world}
 use Rattle.ls_session.proofs.KeepLemmas.{no_weaver, its_file, has_place}
 use Rattle.ls_session.proofs.OnceLemmas.{kept_once, kept_apart}
 
@@ -165,6 +168,46 @@ synced_stands w s v stands = record {
   named = λ name named. refl;
 }
 
+-- ---- nothing is said or heard
+
+silent_trans : (u v w : World) → IsSilent u v → IsSilent v w → IsSilent u w
+silent_trans u v w first second = record { said = second.said ∙ first.said; input = second.input ∙ first.input }
+
+silent_but : (reach : Reach) (w v : World) → SameBut reach w v → IsSilent w v
+silent_but reach w v but = record { said = ap (λ (x : World). x.said) but.rest; input = ap (λ (x : World). x.input) but.rest }
+
+silent_left : (w image : World) → Leaves w image → IsSilent w image
+silent_left w image left = record { said = ap (λ (x : World). x.said) left.rest; input = ap (λ (x : World). x.input) left.rest }
+
+silent_left_but : (reach : Reach) (w image : World) → LeavesBut reach w image → IsSilent w image
+silent_left_but reach w image (v, but, left) = silent_trans w v image (silent_but reach w v but) (silent_left v image left)
+
+load_left : (w image : World) (s : Settled) (v : Vault) → StandsBy w s v → IsLoadImage (synced_world w) image → IsStillBy w s v image
+load_left w image s v stands is =
+    let silent = silent_left_but settings_reach (synced_world w) image is.rest in
+    record {
+      silent = record { said = silent.said; input = silent.input };
+      stands = load_cut (synced_world w) image s v (synced_stands w s v stands) is;
+    }
+
+both_images : {P Q R : World → Type 0} (calls : List (World × Option Action)) → ((image : World) → P image → Q image → R image) → AllImages P calls → AllImages Q calls → AllImages R calls
+both_images [] on first second = tt
+both_images (call ∷ calls) on first second = (
+  λ image left. on image (first.0 image left) (second.0 image left),
+  λ image left. on image (first.1 image left) (second.1 image left),
+  both_images calls on first.2 second.2,
+)
+
+-- what both say of a crash
+both_left : {P Q R : World → Type 0} (old new : Sight) → ((image : World) → P image → Q image → R image) → LeavesOnly old new P → LeavesOnly old new Q → LeavesOnly old new R
+both_left {P} {Q} {R} old new on first second = record {
+  calls = first.calls;
+  joined = first.joined;
+  each = both_images first.calls on first.each
+      (subst (AllImages Q) (append_cancel_right second.calls first.calls old.past (sym second.joined ∙ first.joined)) second.each);
+  now = λ image left. on image (first.now image left) (second.now image left);
+}
+
 -- what is loaded, where the beginning ended well
 module _ (old mid : Sight) (l : Loaded) (begins : Begins old (Ok l) mid) (told : IsTrue old.told) where
   are : AreLoaded (synced_world old.world) l mid.world
@@ -196,18 +239,29 @@ module _ (old mid : Sight) (l : Loaded) (begins : Begins old (Ok l) mid) (told :
     stands_there = load_done (synced_world old.world) mid.world s v l (synced_stands old.world s v stands) are but
 
     -- what a crash leaves of the beginning, and of what follows
-    pub settled_behind : (new : Sight) → LeavesOnly mid new (λ image. StandsDurably image s v) → LeavesOnlySettled old new (λ image. StandsDurably image s v)
+    pub settled_behind : (new : Sight) → LeavesOnly mid new (IsStillBy old.world s v) → LeavesOnlySettled old new (IsStillBy old.world s v)
     settled_behind new tail =
         let b = begins.begun told in
         let from : Sight = record old { past = (old.world, Some Sync) ∷ old.past } in
         let first : LeavesOnly from mid (IsLoadImage (synced_world old.world)) = record { calls = b.0; joined = b.1; each = b.2; now = b.3 } in
-        let whole = joins from mid new (λ image. StandsDurably image s v)
-        (weaker from mid (IsLoadImage (synced_world old.world)) (λ image. StandsDurably image s v) (λ image left. load_cut (synced_world old.world) image s v (synced_stands old.world s v stands) left) first) tail in
+        let whole = joins from mid new (IsStillBy old.world s v)
+        (weaker from mid (IsLoadImage (synced_world old.world)) (IsStillBy old.world s v) (λ image left. load_left old.world image s v stands left) first) tail in
         record { calls = whole.calls; joined = inr whole.joined; each = whole.each; now = λ settled. whole.now }
 
+    -- and where no file was touched before
+    pub left_behind : (new : Sight) → old.world.touched ≡ [] → LeavesOnly mid new (IsStillBy old.world s v) → LeavesOnly old new (IsStillBy old.world s v)
+    left_behind new none tail = joins old mid new (IsStillBy old.world s v)
+        (weaker old mid (IsLoadImage (synced_world old.world)) (IsStillBy old.world s v) (λ image left. load_left old.world image s v stands left) (begins.whole told none)) tail
+
+    pub silent_there : IsSilent old.world mid.world
+    silent_there =
+        let silent = silent_but settings_reach (synced_world old.world) mid.world but in
+        record { said = silent.said; input = silent.input }
+
     -- a look
-    pub looked : (new : Sight) → LeavesOnly mid new (Leaves mid.world) → LeavesOnly mid new (λ image. StandsDurably image s v)
-    looked new leaves = weaker mid new (Leaves mid.world) (λ image. StandsDurably image s v) (λ image left. durably_left mid.world image s v stands_there left) leaves
+    pub looked : (new : Sight) → LeavesOnly mid new (Leaves mid.world) → LeavesOnly mid new (IsStillBy old.world s v)
+    looked new leaves = weaker mid new (Leaves mid.world) (IsStillBy old.world s v)
+        (λ image left. record { silent = silent_trans old.world mid.world image silent_there (silent_left mid.world image left); stands = durably_left mid.world image s v stands_there left }) leaves
 
 -- ---- refusals
 
@@ -218,19 +272,20 @@ begin_refused old new boot e begins = record {
   fresh = tt;
   can = tt;
   rest = λ told. rest_but settings_reach old.world new.world (begins.but told);
+  begun = λ told. tt;
   foreign = λ told name at is. inl (begins.foreign told name at (again is));
   sound = λ told f fault x is. absurd (cc);
   agrees = λ told s v stands. tt;
   bare = λ told. tt;
   crash = λ told s v stands.
       let left = begins.settled told in
-      let D = synced_stands old.world s v stands in
       record {
         calls = left.calls;
         joined = left.joined;
-        each = all_images left.calls (λ image is. load_cut (synced_world old.world) image s v D is) left.each;
-        now = λ settled image leaves. load_cut (synced_world old.world) image s v D (left.now settled image leaves);
+        each = all_images left.calls (λ image is. load_left old.world image s v stands is) left.each;
+        now = λ settled image leaves. load_left old.world image s v stands (left.now settled image leaves);
       };
+  left = λ told none s v stands. weaker old new (IsLoadImage (synced_world old.world)) (IsStillBy old.world s v) (λ image is. load_left old.world image s v stands is) (begins.whole told none);
 }
   where
     inside : (f : OpenRefusal) → ◌≡◌ {A = Result Session OpenRefusal} (Err e) (Err f) → e ≡ f
@@ -247,6 +302,7 @@ module _ (old mid new : Sight) (boot : ℕ) (l : Loaded) (begins : Begins old (O
     fresh = tt;
     can = tt;
     rest = λ told. subst (SameRest old.world) (sym (checks.same (on told))) (rest_but settings_reach old.world mid.world (begins.but told));
+    begun = λ told. tt;
     foreign = λ told name at is. inr (
       l.settled,
       is_current old mid l begins told,
@@ -256,6 +312,7 @@ module _ (old mid new : Sight) (boot : ℕ) (l : Loaded) (begins : Begins old (O
     agrees = λ told s v stands. tt;
     bare = λ told. tt;
     crash = λ told s v stands. settled_behind old mid l begins told s v stands new (looked old mid l begins told s v stands new (checks.crash (on told)));
+    left = λ told none s v stands. left_behind old mid l begins told s v stands new none (looked old mid l begins told s v stands new (checks.crash (on told)));
   }
     where
       on : IsTrue old.told → IsTrue mid.told
@@ -283,6 +340,18 @@ module _ (old mid far new : Sight) (boot : ℕ) (l : Loaded) (begins : Begins ol
   all_rest : (told : IsTrue old.told) → SameRest old.world new.world
   all_rest told = rest_trans old.world far.world new.world (subst (SameRest old.world) (sym (same_world told)) (rest_but settings_reach old.world mid.world (begins.but told))) (sweeps.rest (at_far told))
 
+  -- the calls behind the sync
+  all_begun : (told : IsTrue old.told) → BeginsWithSync old new
+  all_begun told =
+      let first = begins.begun told in
+      let second = checks.crash (at_mid told) in
+      let third = sweeps.cut (at_far told) in
+      let after : List (World × Option Action) = (old.world, Some Sync) ∷ old.past in (
+        third.calls ++ (second.calls ++ first.0),
+        third.joined ∙ ap (λ (past : List (World × Option Action)). third.calls ++ past) (second.joined ∙ ap (λ (past : List (World × Option Action)). second.calls ++ past) first.1
+            ∙ sym (append_assoc second.calls first.0 after)) ∙ sym (append_assoc third.calls (second.calls ++ first.0) after),
+      )
+
   no_fault : (told : IsTrue old.told) → first_foreign old.world l.settled.rec ≡ None
   no_fault told = sym (foreign_stays old mid l begins told) ∙ ap (first_foreign mid.world) (sym same) ∙ checks.none (at_mid told)
 
@@ -293,9 +362,23 @@ module _ (old mid far new : Sight) (boot : ℕ) (l : Loaded) (begins : Begins ol
     stands_far : StandsDurably far.world s v
     stands_far = subst (λ (w : World). StandsDurably w s v) (sym (same_world told)) (stands_there old mid l begins told s v stands)
 
-    all_crash : LeavesOnlySettled old new (λ image. StandsDurably image s v)
-    all_crash = settled_behind old mid l begins told s v stands new
-        (joins mid far new (λ image. StandsDurably image s v) (looked old mid l begins told s v stands far (checks.crash (at_mid told))) (sweeps.crash (at_far told) s v is_rec stands_far))
+    swept_left : LeavesOnly far new (IsStillBy old.world s v)
+    swept_left = both_left far new
+        (λ image holds but. record {
+          silent = silent_trans old.world mid.world image (silent_there old mid l begins told s v stands)
+              (subst (λ (w : World). IsSilent w image) (same_world told) (silent_left_but (unnamed far.world l.settled.rec) far.world image but));
+          stands = holds;
+        })
+        (sweeps.crash (at_far told) s v is_rec stands_far) (sweeps.images (at_far told))
+
+    behind_left : LeavesOnly mid new (IsStillBy old.world s v)
+    behind_left = joins mid far new (IsStillBy old.world s v) (looked old mid l begins told s v stands far (checks.crash (at_mid told))) swept_left
+
+    all_crash : LeavesOnlySettled old new (IsStillBy old.world s v)
+    all_crash = settled_behind old mid l begins told s v stands new behind_left
+
+    all_left : old.world.touched ≡ [] → LeavesOnly old new (IsStillBy old.world s v)
+    all_left none = left_behind old mid l begins told s v stands new none behind_left
 
     stands_new : StandsDurably new.world s v
     stands_new = sweeps.stands (at_far told) s v is_rec stands_far
@@ -309,11 +392,13 @@ sweep_refused old mid far new boot l begins r same {A} {B} named checks fault sw
   fresh = tt;
   can = tt;
   rest = all_rest old mid far new boot l begins r same named checks (Err fault) sweeps;
+  begun = λ told. tt;
   foreign = λ told name at is. absurd (never fault name at (inside (IsForeign name at) is));
   sound = λ told f its x is. absurd (cc);
   agrees = λ told s v stands. tt;
   bare = λ told. tt;
   crash = all_crash old mid far new boot l begins r same named checks (Err fault) sweeps;
+  left = λ told none s v stands. all_left old mid far new boot l begins r same named checks (Err fault) sweeps told s v stands none;
 }
   where
     inside : (f : OpenRefusal) → ◌≡◌ {A = Result Session OpenRefusal} (Err (refusal_of fault)) (Err f) → refusal_of fault ≡ f
@@ -452,6 +537,7 @@ module _ (old mid far new : Sight) (boot : ℕ) (l : Loaded) (begins : Begins ol
     fresh = subst (λ (m : ℕ). IsFresh boot m x) (slots ∙ sight_keeps.slots) fresh;
     can = may_serve;
     rest = all_rest old mid far new boot l begins l.settled.rec refl named checks (Ok done) sweeps;
+    begun = all_begun old mid far new boot l begins l.settled.rec refl named checks (Ok done) sweeps;
     foreign = λ told name at is. absurd (cc);
     sound = λ told f fault y is. no_first told f fault;
     agrees = λ told s v stands.
@@ -465,6 +551,7 @@ module _ (old mid far new : Sight) (boot : ℕ) (l : Loaded) (begins : Begins ol
     bare = λ told. subst (λ (q : Loaded). IsBare old.world new.world q.settled.rec []) (sym settings)
         (sweeps.bare (is_far told) old.world (λ m strange. ap (λ (w : World). file_at w m) (checks.same (is_mid told)) ∙ strange_kept old.world mid.world (begins.but told) m strange));
     crash = all_crash old mid far new boot l begins l.settled.rec refl named checks (Ok done) sweeps;
+    left = λ told none s v stands. all_left old mid far new boot l begins l.settled.rec refl named checks (Ok done) sweeps told s v stands none;
   }
     where
       apart : {P : Foreign} {q : Settled} → ◌≡◌ {A = Result Settled Foreign} (Err P) (Ok q) → ⊥

@@ -10,10 +10,10 @@ use Rattle.ls_board.specs.Effect.{file_at, after}
 use Rattle.ls_board.specs.Images.{Leaves}
 use Rattle.ls_board.specs.Reach.{SameBut}
 use Rattle.ls_board.specs.Rest.{SameRest}
-use Rattle.ls_board.specs.Runs.{AllImages}
+use Rattle.ls_board.specs.Runs.{AllImages, LeavesOnly}
 use Rattle.ls_board.specs.Keeping.{Keeps}
 use Rattle.ls_naming.specs.Current.{Settled, Foreign, current}
-use Rattle.ls_serving.specs.Calls.{Calls}
+use Rattle.ls_serving.specs.Calls.{Calls, IsSilent}
 use Rattle.ls_serving.specs.Settled.{LeavesOnlySettled}
 use Rattle.ls_settings.specs.declared.fault.OpenRefusal.{OpenRefusal}
 use Rattle.ls_settings.specs.declared.fault.OpenRefusal.TheVariants.{Foreign as IsForeign, Fault}
@@ -51,6 +51,8 @@ pub record Begins (old : Sight) (result : Result Loaded OpenRefusal) (new : Sigh
   pub foreign : IsTrue old.told → (name : List ℕ) (at : ℕ) → result ≡ Err (IsForeign name at)
       → current (file_at old.world) ≡ Err (record { name = name; at = at })
   pub settled : IsTrue old.told → LeavesOnlySettled old new (IsLoadImage (synced_world old.world))
+  -- where no file was touched before it, also a crash within the sync
+  pub whole : IsTrue old.told → old.world.touched ≡ [] → LeavesOnly old new (IsLoadImage (synced_world old.world))
   -- behind the sync there are calls, or no file is touched
   pub begun : IsTrue old.told → OnOk result ((calls : List (World × Option Action))
       × (new.past ≡ calls ++ (old.world, Some Sync) ∷ old.past)
@@ -67,6 +69,15 @@ IsFirstFault w f =
 
 -- ---- opening
 
+-- The image stands for the vault by these settings, and nothing was said or heard.
+pub record IsStillBy (w : World) (s : Settled) (v : Vault) (image : World) : Type 0 where
+  pub silent : IsSilent w image
+  pub stands : StandsDurably image s v
+
+-- a sync was called first of all
+abbrev pub BeginsWithSync : Sight → Sight → Type 0
+BeginsWithSync old new = (calls : List (World × Option Action)) × (new.past ≡ calls ++ (old.world, Some Sync) ∷ old.past)
+
 -- What opening does, on any board.
 pub record Opens (old : Sight) (boot : ℕ) (result : Result Session OpenRefusal) (new : Sight) : Type 0 where
   -- A fault comes only where a count rose, and no other answer where one grew.
@@ -75,6 +86,7 @@ pub record Opens (old : Sight) (boot : ℕ) (result : Result Session OpenRefusal
   pub can : IfOk result (CanServe new)
   -- Nothing is said, heard or drawn, and no moment is taken.
   pub rest : IsTrue old.told → SameRest old.world new.world
+  pub begun : IsTrue old.told → OnOk result (BeginsWithSync old new)
   -- The first file at fault is named, and it is refused only for that.
   pub foreign : IsTrue old.told → (name : List ℕ) (at : ℕ) → result ≡ Err (IsForeign name at)
       → IsFirstFault old.world (record { name = name; at = at })
@@ -85,6 +97,9 @@ pub record Opens (old : Sight) (boot : ℕ) (result : Result Session OpenRefusal
       → IfOk result (λ x. Agrees new.world x (opened_state old.world s boot v))
   -- Nothing is left that the record doesn't name, whatever the world stands for.
   pub bare : IsTrue old.told → IfOk result (λ x. IsBare old.world new.world x.settings.settled.rec [])
-  -- From the sync on a crash leaves the vault. Before it there is no call.
+  -- From the sync on a crash leaves the vault, and nothing was said or heard. Before it there is no call.
   pub crash : IsTrue old.told → (s : Settled) (v : Vault) → StandsBy old.world s v
-      → LeavesOnlySettled old new (λ image. StandsDurably image s v)
+      → LeavesOnlySettled old new (IsStillBy old.world s v)
+  -- Where no file was touched before, so does a crash at any moment.
+  pub left : IsTrue old.told → old.world.touched ≡ [] → (s : Settled) (v : Vault) → StandsBy old.world s v
+      → LeavesOnly old new (IsStillBy old.world s v)
