@@ -42,7 +42,7 @@ module _ (w : World) (x : Session) (s : State) (a : Agrees w x s) where
   pub count_is : length s.vault.users ≡ length x.settings.settled.rec.users
   count_is = both.0
 
-  used_is : used s.vault.users ≡ used_by x.settings.settled.rec.users
+  pub used_is : used s.vault.users ≡ used_by x.settings.settled.rec.users
   used_is = λ i. both.0 i + both.1 i
 
   pub full_is : is_full x.slots s ≡ has_no_slot x

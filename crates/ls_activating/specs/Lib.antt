@@ -1,0 +1,4 @@
+pub mod Counting
+pub mod Halves
+pub mod Activating
+pub mod Planning
